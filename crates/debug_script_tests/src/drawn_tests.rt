@@ -2,16 +2,12 @@
 //! shown; and a search that is parted, saved and loaded at drawn positions has in the end the visits of one that
 //! runs through.
 
-use crate::session_tests::answer;
-use cover_problem::{PlainTable, Problem, read_cover};
+use crate::fixtures::{Plain, answer, answers, is_answered, is_begun, loaded};
+use cover_problem::{Problem, read_cover};
 use drawn_problems::{draw, drawn_narrow_options, text_of};
 use std::alloc::{AllocError, Global};
-use std::test::Fail;
 use text_lines::split_ended_line;
 use x_debug::Session;
-
-/// A session over a table that filters.
-type Plain<'p> = Session<'p, PlainTable>;
 
 /// The text of a problem of five items, of which three to five are primary, with five to fifteen options of few
 /// of them.
@@ -22,66 +18,92 @@ fn drawn_text(alloc: Global, seed: &mut u64) -> Result<String, AllocError> {
 }
 
 /// The problem of such a text.
-pub fn drawn_problem(alloc: Global, seed: &mut u64) -> Result<Problem, Fail> {
-    let text = drawn_text(alloc, seed)?;
-    Ok(read_cover(alloc, text.as_bytes())?)
+pub fn drawn_problem(alloc: Global, seed: &mut u64) -> Option<Problem> {
+    let Ok(text) = drawn_text(alloc, seed) else {
+        return None;
+    };
+    match read_cover(alloc, text.as_bytes()) {
+        Ok(problem) => Some(problem),
+        Err(_) => None,
+    }
 }
 
-/// So many steps, as far as there are any: how many there were.
-fn take_steps(session: &mut Plain<'_>, most: u32) -> Result<u32, AllocError> {
+/// So many steps, as far as there are any: how many there were. None where one is not answered.
+fn take_steps(session: &mut Plain<'_>, most: u32) -> Option<u32> {
     for made in 0..most {
-        if answer(session, "step")?.starts_with(b"refused") {
-            return Ok(made);
+        match is_begun(session, b"step", b"refused") {
+            Some(false) => (),
+            Some(true) => return Some(made),
+            None => return None,
         }
     }
-    Ok(most)
+    Some(most)
 }
 
-/// So many steps back.
-fn take_back(session: &mut Plain<'_>, most: u32) -> Result<(), AllocError> {
+/// Whether so many steps back are answered.
+fn take_back(session: &mut Plain<'_>, most: u32) -> bool {
     for _ in 0..most {
-        answer(session, "back")?;
+        if !answers(session, b"back") {
+            return false;
+        }
     }
-    Ok(())
+    true
 }
 
-/// Whether steps, after some steps, and as many back leave what is shown as it was.
-fn is_taken_back(session: &mut Plain<'_>, before: u32, most: u32) -> Result<bool, Fail> {
-    take_steps(session, before)?;
-    let shown = answer(session, "show")?;
-    let made = take_steps(session, most)?;
-    take_back(session, made)?;
-    Ok(answer(session, "show")? == shown)
+/// Whether so many steps, as far as there are any, and as many back lead to where this is shown.
+fn comes_back(session: &mut Plain<'_>, most: u32, shown: &[u8]) -> bool {
+    match take_steps(session, most) {
+        Some(made) => take_back(session, made) && is_answered(session, b"show", shown),
+        None => false,
+    }
 }
 
-/// Splits at an option of the first level, with the command that then opens the new branch.
-static SPLITS: [(&str, &str); 15] = [
-    ("split 0 1", "open 1"),
-    ("split 0 2", "open 2"),
-    ("split 0 3", "open 3"),
-    ("split 0 4", "open 4"),
-    ("split 0 5", "open 5"),
-    ("split 0 6", "open 6"),
-    ("split 0 7", "open 7"),
-    ("split 0 8", "open 8"),
-    ("split 0 9", "open 9"),
-    ("split 0 10", "open 10"),
-    ("split 0 11", "open 11"),
-    ("split 0 12", "open 12"),
-    ("split 0 13", "open 13"),
-    ("split 0 14", "open 14"),
-    ("split 0 15", "open 15"),
+/// Whether steps and as many back leave what is shown as it was.
+fn is_taken_back(session: &mut Plain<'_>, most: u32) -> bool {
+    match answer(session, b"show") {
+        Some(shown) => comes_back(session, most, &shown),
+        None => false,
+    }
+}
+
+/// The same of drawn numbers of steps, after some steps.
+fn is_drawn_back(session: &mut Plain<'_>, seed: &mut u64) -> bool {
+    let (before, most) = (draw(seed) % 60, draw(seed) % 60);
+    take_steps(session, before).is_some() && is_taken_back(session, most)
+}
+
+/// A split at an option of the first level, and the command that then opens the new branch.
+struct Commands(&'static [u8], &'static [u8]);
+
+static SPLITS: [Commands; 15] = [
+    Commands(b"split 0 1", b"open 1"),
+    Commands(b"split 0 2", b"open 2"),
+    Commands(b"split 0 3", b"open 3"),
+    Commands(b"split 0 4", b"open 4"),
+    Commands(b"split 0 5", b"open 5"),
+    Commands(b"split 0 6", b"open 6"),
+    Commands(b"split 0 7", b"open 7"),
+    Commands(b"split 0 8", b"open 8"),
+    Commands(b"split 0 9", b"open 9"),
+    Commands(b"split 0 10", b"open 10"),
+    Commands(b"split 0 11", b"open 11"),
+    Commands(b"split 0 12", b"open 12"),
+    Commands(b"split 0 13", b"open 13"),
+    Commands(b"split 0 14", b"open 14"),
+    Commands(b"split 0 15", b"open 15"),
 ];
 
 /// Splits at the first option of the first level, from a drawn one on, where that can be; what then opens the
-/// new branch, or nothing.
-fn split(session: &mut Plain<'_>, first: u32) -> Result<&'static str, AllocError> {
-    for (command, opening) in SPLITS.iter().skip(first as usize) {
-        if answer(session, command)?.starts_with(b"branch") {
-            return Ok(opening);
+/// new branch, or nothing. None where a split is not answered.
+fn split(session: &mut Plain<'_>, first: u32) -> Option<&'static [u8]> {
+    for commands in SPLITS.iter().skip(first as usize) {
+        match is_begun(session, commands.0, b"branch") {
+            Some(true) => return Some(commands.1),
+            Some(false) => (),
+            None => return None,
         }
     }
-    Ok("")
+    Some(b"")
 }
 
 /// The lines of visits at the front of a reply to `visits`.
@@ -97,132 +119,191 @@ fn visit_lines(reply: &[u8]) -> &[u8] {
     lines
 }
 
-/// The visits that were posted, line by line.
-fn posted(session: &mut Plain<'_>) -> Result<Vec<u8>, AllocError> {
-    let reply = answer(session, "visits")?;
-    Vec::from_slice(*reply.allocator(), visit_lines(&reply))
-}
-
-/// Runs to the branch's end, and closes it: the visits that are posted then.
-fn finish(session: &mut Plain<'_>) -> Result<Vec<u8>, AllocError> {
-    answer(session, "run")?;
-    answer(session, "close")?;
-    posted(session)
-}
-
-/// The visits of a session that runs through.
-fn whole(alloc: Global, problem: &Problem) -> Result<Vec<u8>, AllocError> {
-    let mut session = Session::new(alloc, problem)?;
-    finish(&mut session)
-}
-
-/// Loads the snapshot behind the first line of a reply, and runs on: the visits that are posted then.
-fn finish_loaded(session: &mut Plain<'_>, reply: &[u8]) -> Result<Vec<u8>, AllocError> {
-    if let Some((_, snapshot)) = split_ended_line(reply) {
-        session.load(snapshot)?;
+/// Adds the visits that were posted, line by line.
+fn add_posted(session: &mut Plain<'_>, visits: &mut Vec<u8>) -> bool {
+    match answer(session, b"visits") {
+        Some(reply) => visits.extend_from_slice(visit_lines(&reply)).is_ok(),
+        None => false,
     }
-    finish(session)
 }
 
-/// The same of a new session.
-fn loaded(alloc: Global, problem: &Problem, reply: &[u8]) -> Result<Vec<u8>, AllocError> {
-    let mut session: Plain<'_> = Session::new(alloc, problem)?;
-    finish_loaded(&mut session, reply)
+/// Runs to the branch's end, closes it, and adds the visits that are posted then.
+fn add_rest(session: &mut Plain<'_>, visits: &mut Vec<u8>) -> bool {
+    answers(session, b"run") && answers(session, b"close") && add_posted(session, visits)
 }
 
-/// Adds the visits of the branch that this command opens, behind so many bytes of visits before; none where there is no command.
+/// Adds the visits of a session that runs through.
+fn add_whole(alloc: Global, problem: &Problem, visits: &mut Vec<u8>) -> bool {
+    let Ok(mut session) = Session::new(alloc, problem) else {
+        return false;
+    };
+    add_rest(&mut session, visits)
+}
+
+/// Loads the snapshot behind the first line of a reply, if one stands there.
+fn load_saved(session: &mut Plain<'_>, reply: &[u8]) -> bool {
+    match split_ended_line(reply) {
+        Some((_, snapshot)) => loaded(session, snapshot).is_some(),
+        None => true,
+    }
+}
+
+/// Adds the visits of a new session that loads it and runs on.
+fn add_loaded(alloc: Global, problem: &Problem, reply: &[u8], visits: &mut Vec<u8>) -> bool {
+    let Ok(mut session) = Session::new(alloc, problem) else {
+        return false;
+    };
+    load_saved(&mut session, reply) && add_rest(&mut session, visits)
+}
+
+/// Adds the visits of the open branch, behind so many bytes of visits before.
+fn add_behind(alloc: Global, session: &mut Plain<'_>, before: usize, visits: &mut Vec<u8>) -> bool {
+    let mut all = Vec::new(alloc);
+    let is_whole = add_rest(session, &mut all);
+    let (_, others) = all.split_at(before.min(all.len()));
+    is_whole && visits.extend_from_slice(others).is_ok()
+}
+
+/// The same of the branch that this command opens; adds none where there is no command.
 fn add_opened(
+    alloc: Global,
+    session: &mut Plain<'_>,
+    opening: &[u8],
+    before: usize,
+    visits: &mut Vec<u8>,
+) -> bool {
+    if opening.is_empty() {
+        return true;
+    }
+    answers(session, opening) && add_behind(alloc, session, before, visits)
+}
+
+/// Adds the visits that were posted, and those of a new session that loads what a reply has; how many bytes the first ones have.
+fn add_both(
+    alloc: Global,
+    problem: &Problem,
+    session: &mut Plain<'_>,
+    reply: &[u8],
+    visits: &mut Vec<u8>,
+) -> Option<usize> {
+    if !add_posted(session, visits) {
+        return None;
+    }
+    let before = visits.len();
+    if add_loaded(alloc, problem, reply, visits) {
+        Some(before)
+    } else {
+        None
+    }
+}
+
+/// The same of a session that is saved where it is.
+fn add_saved(
+    alloc: Global,
+    problem: &Problem,
     session: &mut Plain<'_>,
     visits: &mut Vec<u8>,
-    opening: &str,
-    before: usize,
-) -> Result<(), AllocError> {
-    if opening.is_empty() {
-        return Ok(());
+) -> Option<usize> {
+    match answer(session, b"save") {
+        Some(saved) => add_both(alloc, problem, session, &saved, visits),
+        None => None,
     }
-    answer(session, opening)?;
-    let all = finish(session)?;
-    let (_, others) = all.split_at(before.min(all.len()));
-    visits.extend_from_slice(others)
 }
 
-/// The visits of a search that takes some steps, is split, saved and loaded: those before, those of the
-/// branch that was loaded, and those of the branch that was split off.
-fn parted(
+/// Adds the visits of a search that is saved and loaded, and those of the branch that this command opens.
+fn add_in_parts(
     alloc: Global,
     problem: &Problem,
     session: &mut Plain<'_>,
-    steps: u32,
-    first: u32,
-) -> Result<Vec<u8>, AllocError> {
-    take_steps(session, steps)?;
-    let opening = split(session, first)?;
-    let saved = answer(session, "save")?;
-    let mut visits = posted(session)?;
-    let before = visits.len();
-    visits.extend_from_slice(&loaded(alloc, problem, &saved)?)?;
-    add_opened(session, &mut visits, opening, before)?;
-    Ok(visits)
+    opening: &[u8],
+    visits: &mut Vec<u8>,
+) -> bool {
+    match add_saved(alloc, problem, session, visits) {
+        Some(before) => add_opened(alloc, session, opening, before, visits),
+        None => false,
+    }
 }
 
-/// Whether such a search has the visits of one that runs through.
-fn is_parted_whole(
+/// Adds the visits of a search that takes some steps, is split, saved and loaded.
+fn add_parted(
     alloc: Global,
     problem: &Problem,
     session: &mut Plain<'_>,
-    steps: u32,
-    first: u32,
-) -> Result<bool, Fail> {
-    let visits = parted(alloc, problem, session, steps, first)?;
-    Ok(visits == whole(alloc, problem)?)
+    seed: &mut u64,
+    visits: &mut Vec<u8>,
+) -> bool {
+    let (steps, first) = (draw(seed) % 60, draw(seed) % 4);
+    if take_steps(session, steps).is_none() {
+        return false;
+    }
+    match split(session, first) {
+        Some(opening) => add_in_parts(alloc, problem, session, opening, visits),
+        None => false,
+    }
 }
 
-/// The same of a new session.
-fn is_whole(alloc: Global, problem: &Problem, steps: u32, first: u32) -> Result<bool, Fail> {
-    let mut session = Session::new(alloc, problem)?;
-    is_parted_whole(alloc, problem, &mut session, steps, first)
+/// Adds the visits of a new session that is parted so.
+fn add_parted_anew(alloc: Global, problem: &Problem, seed: &mut u64, visits: &mut Vec<u8>) -> bool {
+    let Ok(mut session) = Session::new(alloc, problem) else {
+        return false;
+    };
+    add_parted(alloc, problem, &mut session, seed, visits)
 }
 
-/// Whether what is taken back changes nothing.
-fn is_as_before(alloc: Global, problem: &Problem, steps: u32, most: u32) -> Result<bool, Fail> {
-    let mut session = Session::new(alloc, problem)?;
-    is_taken_back(&mut session, steps, most)
+/// Whether these are the visits of a session that runs through.
+fn are_whole(alloc: Global, problem: &Problem, visits: &[u8]) -> bool {
+    let mut whole = Vec::new(alloc);
+    add_whole(alloc, problem, &mut whole) && whole.as_slice() == visits
 }
 
-/// The same of the next problem that is drawn, and drawn numbers of steps.
-fn is_next_as_before(alloc: Global, seed: &mut u64) -> Result<bool, Fail> {
-    let problem = drawn_problem(alloc, seed)?;
-    let (steps, most) = (draw(seed) % 60, draw(seed) % 60);
-    is_as_before(alloc, &problem, steps, most)
+/// Whether a search that is parted so has the visits of one that runs through.
+fn is_whole(alloc: Global, problem: &Problem, seed: &mut u64) -> bool {
+    let mut visits = Vec::new(alloc);
+    add_parted_anew(alloc, problem, seed, &mut visits) && are_whole(alloc, problem, &visits)
+}
+
+/// Whether what is taken back changes nothing in a new session.
+fn is_as_before(alloc: Global, problem: &Problem, seed: &mut u64) -> bool {
+    let Ok(mut session) = Session::new(alloc, problem) else {
+        return false;
+    };
+    is_drawn_back(&mut session, seed)
+}
+
+/// The same of the next problem that is drawn.
+fn is_next_as_before(alloc: Global, seed: &mut u64) -> bool {
+    match drawn_problem(alloc, seed) {
+        Some(problem) => is_as_before(alloc, &problem, seed),
+        None => false,
+    }
 }
 
 #[test]
-fn what_is_taken_back_changes_nothing(rt: HostRuntime) -> Result<(), Fail> {
+fn what_is_taken_back_changes_nothing(rt: HostRuntime) {
     let mut seed = 16;
     for round in 0..20 {
         assert!(rt;
-            is_next_as_before(rt.alloc(), &mut seed)?,
+            is_next_as_before(rt.alloc(), &mut seed),
             "at the problem drawn as {round}"
         );
     }
-    Ok(())
 }
 
 /// Whether the next drawn problem, parted after a drawn number of steps, has the visits of the whole.
-fn is_next_whole(alloc: Global, seed: &mut u64) -> Result<bool, Fail> {
-    let problem = drawn_problem(alloc, seed)?;
-    let (steps, first) = (draw(seed) % 60, draw(seed) % 4);
-    is_whole(alloc, &problem, steps, first)
+fn is_next_whole(alloc: Global, seed: &mut u64) -> bool {
+    match drawn_problem(alloc, seed) {
+        Some(problem) => is_whole(alloc, &problem, seed),
+        None => false,
+    }
 }
 
 #[test]
-fn a_parted_search_has_the_visits_of_the_whole(rt: HostRuntime) -> Result<(), Fail> {
+fn a_parted_search_has_the_visits_of_the_whole(rt: HostRuntime) {
     let mut seed = 7;
     for round in 0..20 {
         assert!(rt;
-            is_next_whole(rt.alloc(), &mut seed)?,
+            is_next_whole(rt.alloc(), &mut seed),
             "at the problem drawn as {round}"
         );
     }
-    Ok(())
 }

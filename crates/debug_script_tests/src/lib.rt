@@ -4,6 +4,8 @@
 #[cfg(test)]
 mod drawn_tests;
 #[cfg(test)]
+mod fixtures;
+#[cfg(test)]
 mod pool_tests;
 #[cfg(test)]
 mod session_tests;

@@ -1,23 +1,24 @@
 //! Sessions as texts: what is read, and what is answered.
 
-use cover_problem::{PlainTable, read_cover};
+use cover_problem::{PlainTable, Problem, read_cover};
 use debug_script::{replies, split_input};
-use drawn_problems::SMALL;
 use lab_pool::NoGate;
 use std::alloc::Global;
+use std::process::Abort;
 use std::sync::Wait;
-use std::test::Fail;
 use std::thread::Threads;
 
 /// A text of a problem and commands, and what is answered.
-static STORIES: [(&str, &str); 13] = [
-    (
+struct Story(&'static str, &'static str);
+
+static STORIES: [Story; 13] = [
+    Story(
         "items a b c d e f g\noption c e\noption a d g\noption b c f\noption a d f\noption b g\n\
          option d e g\n%%\nstep 12\nshow\nback 12\nback\n",
         "moved 12\nat X5 past 2 3\nat X5 past 2 3\nbranch start to end\ncovered a d g b c f e\nchosen e 0\n\
          moved 12\nat X1 -\nrefused debug 3 AtStart\n",
     ),
-    (
+    Story(
         "items a b c d e f g\noption c e\noption a d g\noption b c f\noption a d f\noption b g\n\
          option d e g\n%%\nbreak level 3\nrun\nsave\nload 13\npolysnap 1\nproblem 7\nitems a b c d e f g\n\
          option c e\noption a d g\noption b c f\noption a d f\noption b g\noption d e g\nfrom start\nto end\n\
@@ -27,37 +28,37 @@ static STORIES: [(&str, &str); 13] = [
          option d e g\nfrom start\nto end\nstate X2 - 4 5 1\nend\nat X2 - 4 5 1\nvisit 4 5 1\nmoved 1\n\
          at X8 - 4 5 1\n",
     ),
-    (
+    Story(
         "items a\noption a\n%%\n%%\nstep\n",
         "refused debug 1 BadCommand\nmoved 1\nat X2 -\n",
     ),
-    ("items a\noption a\n", ""),
-    (
+    Story("items a\noption a\n", ""),
+    Story(
         "items a\noption a\n%%\nstep\nquit\nstep\n",
         "moved 1\nat X2 -\n",
     ),
-    (
+    Story(
         "items a\noption a\n%%\r\nstep\r\nback",
         "moved 1\nat X2 -\nmoved 1\nat X1 -\n",
     ),
-    (
+    Story(
         "items a\noption a\n%%\nload 0\nstep\n",
         "refused snapshot 7 Truncated\nmoved 1\nat X2 -\n",
     ),
-    (
+    Story(
         "items a\noption a\n%%\nload 3\nstep\nstep",
         "refused snapshot 1 BadHeader\n",
     ),
-    (
+    Story(
         "items a\noption a\n%%\npool 2\nstep 2\n",
         "refused debug 4 AlreadyOpen\nmoved 2\nat X3 -\n",
     ),
-    (
+    Story(
         "items a\noption a\n%%\npark\npool\npool 0\npool 33\npool x\npool 1 2\nsteps\n",
         "parked\nrefused debug 1 BadCommand\nrefused debug 1 BadCommand\nrefused debug 1 BadCommand\n\
          refused debug 1 BadCommand\nrefused debug 1 BadCommand\nsteps 0\n",
     ),
-    (
+    Story(
         "items a b c d e f g\noption c e\noption a d g\noption b c f\noption a d f\noption b g\n\
          option d e g\n%%\nload 13\npolysnap 1\nproblem 7\nitems a b c d e f g\noption c e\n\
          option a d g\noption b c f\noption a d f\noption b g\noption d e g\nfrom 4\nto end\n\
@@ -65,7 +66,7 @@ static STORIES: [(&str, &str); 13] = [
         "at X2 - 4 5 1\nparked\npooled\nvisit 4 5 1\nvisits 1\nsteps 14\n",
     ),
     // Secondary items are shown until they are covered.
-    (
+    Story(
         "items a b\nmaybe c\noption a c\noption b c\noption a\noption b\n%%\nstep\nshow\nstep 4\nshow\n\
          step 12\nshow\n",
         "moved 1\nat X2 -\nat X2 -\nbranch start to end\ncovered -\nactive a 2 1 3\nactive b 2 2 4\n\
@@ -73,7 +74,7 @@ static STORIES: [(&str, &str); 13] = [
          visit 1 4\nmoved 12\nat X2 - 3\nat X2 - 3\nbranch start to end\ncovered a\nactive b 2 2 4\n\
          second c 1 2\n",
     ),
-    (
+    Story(
         "items A 000 100\nmaybe B 200\noption A 000 100\noption A 100 200\noption B 000\noption B 100\n%%\n\
          show\nstep 5\nshow\nstep 4\nshow\nrun\nclose\nsteps\n",
         "at X1 -\nbranch start to end\ncovered -\nactive A 2 1 2\nactive 000 2 1 3\nactive 100 3 1 2 4\n\
@@ -84,67 +85,69 @@ static STORIES: [(&str, &str); 13] = [
     ),
 ];
 
-/// The small problem, of which one of two branches is held while workers search the other, and is then searched too; so with two
-/// numbers of workers.
-static HELD: [(&str, &str); 3] = [("1", "2"), ("2", "1"), ("8", "8")];
-
-/// What is answered with each of them.
+/// What is answered where one of the small problem's two branches is held while workers search the other, and is then searched too.
 const HELD_ANSWERS: &str =
     "moved 5\nat X2 - 2\nbranch 4 to end waiting\nparked\nbranch 4 to end held\nrefused pool 3 Held\nsteps 20\n\
      levels 1 1 1\nat X5 4\nparked\npooled\nsteps 43\nvisit 4 5 1\nvisits 1\n";
 
-/// What commands after the mark of a text are answered.
-fn answered<R: Threads + Wait + Sync>(rt: &R, alloc: Global, text: &str) -> Result<Vec<u8>, Fail> {
-    let (text, commands) = split_input(text.as_bytes());
-    let problem = read_cover(alloc, text)?;
-    let answers = replies::<PlainTable, R, NoGate>(rt, alloc, &problem, commands, &NoGate)?;
-    Ok(answers)
-}
+/// So with two numbers of workers.
+static HELD: [Story; 3] = [
+    Story(
+        "items a b c d e f g\noption c e\noption a d g\noption b c f\noption a d f\noption b g\n\
+         option d e g\n%%\nstep 5\nsplit 0 4\npark\nhold 4\npool 1\nsteps\nlevels\nopen 4\npark\n\
+         pool 2\nsteps\nvisits\n",
+        HELD_ANSWERS,
+    ),
+    Story(
+        "items a b c d e f g\noption c e\noption a d g\noption b c f\noption a d f\noption b g\n\
+         option d e g\n%%\nstep 5\nsplit 0 4\npark\nhold 4\npool 2\nsteps\nlevels\nopen 4\npark\n\
+         pool 1\nsteps\nvisits\n",
+        HELD_ANSWERS,
+    ),
+    Story(
+        "items a b c d e f g\noption c e\noption a d g\noption b c f\noption a d f\noption b g\n\
+         option d e g\n%%\nstep 5\nsplit 0 4\npark\nhold 4\npool 8\nsteps\nlevels\nopen 4\npark\n\
+         pool 8\nsteps\nvisits\n",
+        HELD_ANSWERS,
+    ),
+];
 
-/// Whether they are answered so.
-fn is_answered<R: Threads + Wait + Sync>(
+/// Whether commands on a problem are answered so.
+fn are_answered<R: Threads + Wait + Sync>(
     rt: &R,
     alloc: Global,
-    text: &str,
-    wanted: &str,
-) -> Result<bool, Fail> {
-    Ok(answered(rt, alloc, text)?.as_slice() == wanted.as_bytes())
+    problem: &Problem,
+    commands: &[u8],
+    wanted: &[u8],
+) -> bool {
+    match replies::<PlainTable, R, NoGate>(rt, alloc, problem, commands, &NoGate) {
+        Ok(answers) => answers.as_slice() == wanted,
+        Err(_) => false,
+    }
 }
 
-/// The place of the first text that is answered otherwise.
-fn differs<R: Threads + Wait + Sync>(rt: &R, alloc: Global) -> Result<Option<usize>, Fail> {
-    for (at, row) in STORIES.iter().enumerate() {
-        if !is_answered(rt, alloc, row.0, row.1)? {
-            return Ok(Some(at));
-        }
+/// Whether the commands of a story are answered as it tells.
+fn is_told<R: Threads + Wait + Sync>(rt: &R, alloc: Global, story: &Story) -> bool {
+    let (text, commands) = split_input(story.0.as_bytes());
+    match read_cover(alloc, text) {
+        Ok(problem) => are_answered(rt, alloc, &problem, commands, story.1.as_bytes()),
+        Err(_) => false,
     }
-    Ok(None)
+}
+
+/// Asserts that the commands of each story are answered as it tells.
+fn assert_told<R: Abort + Threads + Wait + Sync>(rt: &R, alloc: Global, stories: &[Story]) {
+    for story in stories {
+        assert!(rt; is_told(rt, alloc, story), "for {}", story.0);
+    }
 }
 
 #[test]
-fn texts_are_answered(rt: HostRuntime) -> Result<(), Fail> {
-    assert!(rt; differs(&rt, rt.alloc())? == None);
-    Ok(())
-}
-
-/// Whether the held branch is left and searched with these two numbers of workers.
-fn is_held_answered<R: Threads + Wait + Sync>(
-    rt: &R,
-    alloc: Global,
-    first: &str,
-    last: &str,
-) -> Result<bool, Fail> {
-    let text = format!(in alloc;
-        "{SMALL}\n%%\nstep 5\nsplit 0 4\npark\nhold 4\npool {first}\nsteps\nlevels\nopen 4\n\
-         park\npool {last}\nsteps\nvisits\n"
-    )?;
-    is_answered(rt, alloc, &text, HELD_ANSWERS)
+fn texts_are_answered(rt: HostRuntime) {
+    assert_told(&rt, rt.alloc(), &STORIES);
 }
 
 #[test]
-fn a_held_branch_is_left_by_pools(rt: HostRuntime) -> Result<(), Fail> {
-    for (first, last) in HELD.iter() {
-        assert!(rt; is_held_answered(&rt, rt.alloc(), first, last)?);
-    }
-    Ok(())
+fn a_held_branch_is_left_by_pools(rt: HostRuntime) {
+    assert_told(&rt, rt.alloc(), &HELD);
 }

@@ -1,12 +1,12 @@
 //! Searches that are taken by commands, from the input to the output: rows that were worked by hand.
 
-use crate::puzzle_tests::{refuses, writes};
+use crate::ending::{JobRow, Row, assert_each_refused, assert_each_written, writes};
 use crate::request::alone;
+use crate::texts::joined;
 use drawn_problems::SMALL;
 use polylab_engine::{CoverJob, Job, PuzzleJob};
-use std::alloc::{AllocError, Global};
+use std::alloc::Global;
 use std::sync::Wait;
-use std::test::Fail;
 use std::thread::Threads;
 
 /// To where nothing is left to try below an option, and back to the start.
@@ -39,13 +39,13 @@ const LOADED_WITH_BREAKS: &str =
      end\nshow\nclear\n";
 
 /// Commands over the small problem, each with what they are answered.
-static ANSWERED: [(&str, &str); 7] = [
-    (
+static ANSWERED: [Row; 7] = [
+    Row(
         THERE_AND_BACK,
         "moved 12\nat X5 past 2 3\nat X5 past 2 3\nbranch start to end\ncovered a d g b c f e\n\
          chosen e 0\nmoved 12\nat X1 -\nrefused debug 3 AtStart\n",
     ),
-    (
+    Row(
         SPLIT,
         "moved 5\nat X2 - 2\nat X2 - 2\nbranch start to end\ncovered a d g\nactive b 1 3\n\
          active c 2 1 3\nactive e 1 1\nactive f 1 3\nuntried 0 4\nrefused runner 4 NotUntried\n\
@@ -53,24 +53,24 @@ static ANSWERED: [(&str, &str); 7] = [
          moved 15\nat X5 4\nend\nclosed\nat X5 4\nvisit 4 5 1\nmoved 23\nat Done -\nend\nclosed\n\
          branches none\nvisit 4 5 1\nvisits 1\n",
     ),
-    (
+    Row(
         TAKEN_BACK,
         "visit 4 5 1\nmoved 30\nat X8 - 4 5 1\nparked\nat X8 - 4 5 1\nretracted 30\nat X8 - 4 5 1\n\
          visits 0\nmoved 1\nat X2 - 4 5 1\nvisit 4 5 1\nmoved 14\nat Done -\nend\nclosed\nvisit 4 5 1\n\
          visits 1\n",
     ),
-    (
+    Row(
         SAVED,
         "moved 5\nat X2 - 2\nbranch 4 to end waiting\nparked\nat X5 4\nset level 3\nmoved 9\n\
          at X2 - 4 5 1\nbreak level 3\nsnapshot 13\npolysnap 1\nproblem 7\nitems a b c d e f g\n\
          option c e\noption a d g\noption b c f\noption a d f\noption b g\noption d e g\nfrom 4\nto end\n\
          state X2 - 4 5 1\nend\n",
     ),
-    (
+    Row(
         LOADED,
         "at X2 - 4 5 1\nvisit 4 5 1\nmoved 14\nat Done -\nend\n",
     ),
-    (
+    Row(
         SAVED_WITH_BREAKS,
         "moved 5\nat X2 - 2\nbranch 4 to end waiting\nparked\nat X5 4\nset level 3\nmoved 9\n\
          at X2 - 4 5 1\nbreak level 3\nat X2 - 4 5 1\nbranch 4 to end\ncovered a d f b g c e\nsnapshot 15\n\
@@ -78,91 +78,58 @@ static ANSWERED: [(&str, &str); 7] = [
          option a d f\noption b g\noption d e g\nfrom 4\nto end\nstate X2 - 4 5 1\nbreaks 1\n\
          break level 3\nend\n",
     ),
-    (
+    Row(
         LOADED_WITH_BREAKS,
         "at X2 - 4 5 1\nat X2 - 4 5 1\nbranch 4 to end\ncovered a d f b g c e\ncleared 1\n",
     ),
 ];
 
-/// The small problem, and these commands.
-fn with_commands(alloc: Global, commands: &str) -> Result<String, AllocError> {
-    let mut text = String::new(alloc);
-    text.push_str(SMALL)?;
-    text.push_str("\n%%\n")?;
-    text.push_str(commands)?;
-    Ok(text)
-}
-
 /// Whether commands on the small problem are answered so.
-fn are_answered<R: Threads + Wait + Sync>(
-    rt: &R,
-    alloc: Global,
-    commands: &str,
-    written: &str,
-) -> Result<bool, AllocError> {
-    let text = with_commands(alloc, commands)?;
-    Ok(writes(
-        rt,
-        alloc,
-        alone(Job::Cover(CoverJob::Debug)),
-        &text,
-        written,
-    ))
+fn are_answered<R: Threads + Wait + Sync>(rt: &R, alloc: Global, row: &Row) -> bool {
+    match joined(alloc, &[SMALL, "\n%%\n", row.0]) {
+        Some(text) => writes(rt, alloc, alone(Job::Cover(CoverJob::Debug)), &text, row.1),
+        None => false,
+    }
 }
 
 #[test]
-fn commands_are_answered(rt: HostRuntime) -> Result<(), Fail> {
-    for (commands, written) in &ANSWERED {
-        assert!(rt;
-            are_answered(&rt, rt.alloc(), commands, written)?,
-            "for {commands}"
-        );
+fn commands_are_answered(rt: HostRuntime) {
+    for row in &ANSWERED {
+        assert!(rt; are_answered(&rt, rt.alloc(), row), "for {}", row.0);
     }
-    Ok(())
 }
+
+/// A text without a command.
+static UNASKED: [JobRow; 1] = [JobRow(Job::Cover(CoverJob::Debug), "items a\noption a\n", "")];
 
 #[test]
 fn no_command_is_answered_by_nothing(rt: HostRuntime) {
-    assert!(rt;
-        writes(
-            &rt,
-            rt.alloc(),
-            alone(Job::Cover(CoverJob::Debug)),
-            "items a\noption a\n",
-            ""
-        )
-    );
+    assert_each_written(&rt, rt.alloc(), &UNASKED);
 }
+
+/// Problems that are refused, with a command behind them.
+static REFUSED: [JobRow; 2] = [
+    JobRow(
+        Job::Cover(CoverJob::Debug),
+        "items a\noption z\n%%\nstep\n",
+        "refused cover 3 UnknownItem line 2\n",
+    ),
+    JobRow(
+        Job::Puzzle(PuzzleJob::Debug),
+        "piece A 000\n%%\nbox 1 1 1\n",
+        "refused puzzle 6 EmptyRegion line 0\n",
+    ),
+];
+
+/// And one that isn't.
+static RUN: [JobRow; 1] = [JobRow(
+    Job::Puzzle(PuzzleJob::Debug),
+    "piece A 000\nbox 1 1 1\n%%\nrun\n",
+    "visit 1\nmoved 11\nat Done -\nend\n",
+)];
 
 #[test]
 fn a_refused_problem_takes_no_command(rt: HostRuntime) {
-    assert!(rt;
-        refuses(
-            &rt,
-            rt.alloc(),
-            alone(Job::Cover(CoverJob::Debug)),
-            "items a\noption z\n%%\nstep\n",
-            3,
-            "refused cover 3 UnknownItem line 2\n"
-        )
-    );
-    assert!(rt;
-        refuses(
-            &rt,
-            rt.alloc(),
-            alone(Job::Puzzle(PuzzleJob::Debug)),
-            "piece A 000\n%%\nbox 1 1 1\n",
-            3,
-            "refused puzzle 6 EmptyRegion line 0\n"
-        )
-    );
-    assert!(rt;
-        writes(
-            &rt,
-            rt.alloc(),
-            alone(Job::Puzzle(PuzzleJob::Debug)),
-            "piece A 000\nbox 1 1 1\n%%\nrun\n",
-            "visit 1\nmoved 11\nat Done -\nend\n"
-        )
-    );
+    assert_each_refused(&rt, rt.alloc(), &REFUSED);
+    assert_each_written(&rt, rt.alloc(), &RUN);
 }

@@ -1,15 +1,13 @@
 //! The Soma cube's search in slices and in parts, whose counts add up to those that two other programs print of the whole.
 
 use crate::box_tests::soma;
+use crate::ending::ending_of;
 use crate::request::alone;
-use byte_streams::Watched;
-use lab_pool::NoGate;
+use crate::texts::{joined, push_all, push_branch};
 use polylab_engine::{CoverJob, Job};
-use polylab_line::{Request, status};
-use std::alloc::{AllocError, Global};
+use std::alloc::Global;
 use std::fmt::Write;
 use std::sync::Wait;
-use std::test::Fail;
 use std::thread::Threads;
 
 /// The visits and steps of the whole search, and then its X2 states at each level.
@@ -17,34 +15,18 @@ static WHOLE: [u64; 10] = [
     11_520, 1_991_327, 1, 55, 1_089, 10_633, 48_900, 110_149, 72_329, 11_520,
 ];
 
-/// What a job writes of a text; nothing where it is refused.
-fn written<R: Threads + Wait + Sync>(
-    rt: &R,
-    alloc: Global,
-    request: Request,
-    text: &str,
-) -> Vec<u8> {
-    let mut output = Vec::new(alloc);
-    let mut faults = Vec::new(alloc);
-    let _status = status(
-        rt,
-        alloc,
-        Ok(request),
-        &NoGate,
-        &mut Watched::reader(text.as_bytes()),
-        &mut Watched::writer(&mut output),
-        &mut Watched::writer(&mut faults),
-    );
-    output
+/// Adds a word's number to the sum at a place, if there is one.
+fn add_word(sums: &mut [u64], place: usize, word: &str) {
+    if let Some(sum) = sums.get_mut(place) {
+        *sum = sum.saturating_add(word.parse::<u64>().unwrap_or(0));
+    }
 }
 
 /// Adds the numbers of a line to sums, from a place on.
 fn add_line(sums: &mut [u64], place: usize, line: &str) {
     let mut place = place;
     for word in line.split(' ').skip(1) {
-        if let Some(sum) = sums.get_mut(place) {
-            *sum = sum.saturating_add(word.parse::<u64>().unwrap_or(0));
-        }
+        add_word(sums, place, word);
         place = place.saturating_add(1);
     }
 }
@@ -62,50 +44,73 @@ fn add_told(sums: &mut [u64], told: &str) {
     }
 }
 
-/// The cuts between which a part of the search lies, and its first state.
-#[derive(Clone, Copy)]
-struct Part<'t> {
-    from: &'t str,
-    to: &'t str,
-    label: &'t str,
-    cursor: &'t str,
+/// Where the whole search begins, and where it ends.
+const START: &str = "start";
+
+const END: &str = "end";
+
+/// Adds the head of a problem's snapshot.
+fn push_head(text: &mut String, problem: &str) -> bool {
+    let lines = problem.lines().count();
+    write!(text, "polysnap 1\nproblem {lines}\n").is_ok() && text.push_str(problem).is_ok()
 }
 
-/// The snapshot of a problem's part at its first state.
-fn snapshot(alloc: Global, problem: &str, part: Part<'_>) -> Result<String, AllocError> {
+/// Adds the lines of the branch between two cuts, at its first state.
+fn push_part(text: &mut String, from: &str, to: &str) -> bool {
+    if from == START {
+        push_branch(text, from, to, "X1 -", "")
+    } else {
+        push_branch(text, from, to, "X5 ", from)
+    }
+}
+
+/// The snapshot of the branch between two cuts of a problem, at its first state.
+fn snapshot(alloc: Global, problem: &str, from: &str, to: &str) -> Option<String> {
     let mut text = String::new(alloc);
-    write!(text, "polysnap 1\nproblem {}\n", problem.lines().count())?;
-    write!(text, "{problem}from {}\nto {}\n", part.from, part.to)?;
-    write!(text, "state {} {}\nend\n", part.label, part.cursor)?;
-    Ok(text)
+    if push_head(&mut text, problem) && push_part(&mut text, from, to) {
+        Some(text)
+    } else {
+        None
+    }
 }
 
-/// The snapshot that stands at the end of what a slice tells.
-fn snapshot_of(alloc: Global, rest: &str) -> Result<String, AllocError> {
-    let mut text = String::from_str(alloc, "polysnap")?;
-    text.push_str(rest)?;
-    Ok(text)
+/// Makes a text the snapshot that begins so.
+fn put_snapshot(text: &mut String, rest: &str) -> bool {
+    text.clear();
+    push_all(text, &["polysnap", rest])
 }
 
-/// Adds what the next slice tells to sums; the snapshot where the one after it begins, or none where the search ends.
+/// Adds what a slice tells to sums, and makes a text the snapshot where the one after it begins: true, or false where the search ends.
+/// None where it neither stops nor ends.
+fn go_on(sums: &mut [u64], text: &mut String, told: &str) -> Option<bool> {
+    add_told(sums, told);
+    match told.split_once("polysnap") {
+        Some((_, rest)) => if put_snapshot(text, rest) {
+            Some(true)
+        } else {
+            None
+        },
+        None => if told.ends_with("\nend\n") {
+            Some(false)
+        } else {
+            None
+        },
+    }
+}
+
+/// The same of the slice of a hundred thousand steps that begins at a snapshot.
 fn add_slice<R: Threads + Wait + Sync>(
     rt: &R,
     alloc: Global,
     sums: &mut [u64],
-    text: &str,
-) -> Result<Option<String>, Fail> {
+    text: &mut String,
+) -> Option<bool> {
     let request = alone(Job::Resume {
         steps: Some(100_000),
         list: false,
     });
-    let output = written(rt, alloc, request, text);
-    let told = str::from_utf8(&output).unwrap_or("");
-    add_told(sums, told);
-    match told.split_once("polysnap") {
-        Some((_, rest)) => Ok(Some(snapshot_of(alloc, rest)?)),
-        None if told.ends_with("\nend\n") => Ok(None),
-        None => Err(Fail::from("a slice that neither stops nor ends")),
-    }
+    let ending = ending_of(rt, alloc, request, text.as_bytes());
+    go_on(sums, text, ending.text())
 }
 
 /// Adds what a search tells slice by slice to sums: how many slices there are, up to a hundred.
@@ -113,98 +118,128 @@ fn add_slices<R: Threads + Wait + Sync>(
     rt: &R,
     alloc: Global,
     sums: &mut [u64],
-    first: String,
-) -> Result<u32, Fail> {
-    let mut text = first;
+    text: &mut String,
+) -> Option<u32> {
     for slice in 1..100u32 {
-        match add_slice(rt, alloc, sums, &text)? {
-            Some(next) => text = next,
-            None => return Ok(slice),
+        match add_slice(rt, alloc, sums, text) {
+            Some(true) => (),
+            Some(false) => return Some(slice),
+            None => return None,
         }
     }
-    Ok(100)
+    Some(100)
 }
 
-/// Where the whole search begins.
-static WHOLE_PART: Part<'static> = Part {
-    from: "start",
-    to: "end",
-    label: "X1",
-    cursor: "-",
-};
-
 /// The snapshot of the Soma cube before its search.
-fn first_snapshot(alloc: Global) -> Result<String, AllocError> {
-    let problem = soma(alloc)?;
-    snapshot(alloc, &problem, WHOLE_PART)
+fn first_snapshot(alloc: Global) -> Option<String> {
+    match soma(alloc) {
+        Some(problem) => snapshot(alloc, &problem, START, END),
+        None => None,
+    }
+}
+
+/// Whether twenty slices add up to the whole.
+fn slices_are_whole<R: Threads + Wait + Sync>(rt: &R, alloc: Global) -> bool {
+    let mut sums = [0u64; 10];
+    match first_snapshot(alloc) {
+        Some(mut text) => {
+            add_slices(rt, alloc, &mut sums, &mut text) == Some(20) && sums == WHOLE
+        }
+        None => false,
+    }
 }
 
 #[test]
-fn slices_add_up(rt: HostRuntime) -> Result<(), Fail> {
-    let mut sums = [0u64; 10];
-    let slices = add_slices(&rt, rt.alloc(), &mut sums, first_snapshot(rt.alloc())?)?;
-    assert_eq!(rt; slices, 20);
-    assert_eq!(rt; sums, WHOLE);
-    Ok(())
+fn slices_add_up(rt: HostRuntime) {
+    assert!(rt; slices_are_whole(&rt, rt.alloc()));
 }
 
-/// The options that can be cut off at level 0.
-fn untried<R: Threads + Wait + Sync>(
-    rt: &R,
-    alloc: Global,
-    problem: &str,
-) -> Result<String, AllocError> {
-    let mut text = String::new(alloc);
-    write!(text, "{problem}%%\nstep 4\nuntried\n")?;
-    let output = written(rt, alloc, alone(Job::Cover(CoverJob::Debug)), &text);
-    let told = str::from_utf8(&output).unwrap_or("");
-    let row = told.lines().find(|line| line.starts_with("untried 0 "));
-    String::from_str(alloc, row.unwrap_or(""))
+/// The first line of a text.
+fn first_line(text: &str) -> &str {
+    match text.split_once('\n') {
+        Some((line, _)) => line,
+        None => text,
+    }
 }
 
-/// Adds what a part tells to sums; whether it ends.
+/// The options that can be cut off at level 0, as they are told.
+fn untried_in(told: &str) -> &str {
+    match told.split_once("untried 0 ") {
+        Some((_, rest)) => first_line(rest),
+        None => "",
+    }
+}
+
+/// The same of what a text of commands is answered.
+fn untried<R: Threads + Wait + Sync>(rt: &R, alloc: Global, text: &str) -> Option<String> {
+    let request = alone(Job::Cover(CoverJob::Debug));
+    let ending = ending_of(rt, alloc, request, text.as_bytes());
+    joined(alloc, &[untried_in(ending.text())])
+}
+
+/// The same of a problem.
+fn untried_of<R: Threads + Wait + Sync>(rt: &R, alloc: Global, problem: &str) -> Option<String> {
+    match joined(alloc, &[problem, "%%\nstep 4\nuntried\n"]) {
+        Some(text) => untried(rt, alloc, &text),
+        None => None,
+    }
+}
+
+/// Adds what a search from a snapshot on tells to sums; whether it ends.
+fn add_rest<R: Threads + Wait + Sync>(rt: &R, alloc: Global, sums: &mut [u64], text: &str) -> bool {
+    let request = alone(Job::Resume {
+        steps: None,
+        list: true,
+    });
+    let ending = ending_of(rt, alloc, request, text.as_bytes());
+    add_told(sums, ending.text());
+    ending.text().ends_with("\nend\n")
+}
+
+/// The same of the branch between two cuts of a problem.
 fn add_part<R: Threads + Wait + Sync>(
     rt: &R,
     alloc: Global,
     sums: &mut [u64],
     problem: &str,
-    part: Part<'_>,
-) -> Result<bool, AllocError> {
-    let text = snapshot(alloc, problem, part)?;
-    let request = alone(Job::Resume {
-        steps: None,
-        list: true,
-    });
-    let output = written(rt, alloc, request, &text);
-    let told = str::from_utf8(&output).unwrap_or("");
-    add_told(sums, told);
-    Ok(told.ends_with("\nend\n"))
+    from: &str,
+    to: &str,
+) -> bool {
+    match snapshot(alloc, problem, from, to) {
+        Some(text) => add_rest(rt, alloc, sums, &text),
+        None => false,
+    }
 }
 
-/// Adds what the parts between these first options tell to sums: how many there are, and whether each of them ends.
+/// The start, these options in order, and then the end.
+fn cut_at(options: &str, place: usize) -> &str {
+    if place == 0 {
+        return START;
+    }
+    match options.split(' ').nth(place.saturating_sub(1)) {
+        Some(option) => option,
+        None => END,
+    }
+}
+
+/// Adds what the parts between these first options tell to sums: how many there are, up to a hundred. None where one of them doesn't end.
 fn add_parts<R: Threads + Wait + Sync>(
     rt: &R,
     alloc: Global,
     sums: &mut [u64],
     problem: &str,
     options: &str,
-) -> Result<(u32, bool), AllocError> {
-    let mut parts = 1u32;
-    let mut all_end = true;
-    let mut part = WHOLE_PART;
-    for option in options.split(' ').skip(2) {
-        let ends = add_part(rt, alloc, sums, problem, Part { to: option, ..part })?;
-        all_end = all_end && ends;
-        parts = parts.saturating_add(1);
-        part = Part {
-            from: option,
-            label: "X5",
-            cursor: option,
-            ..part
-        };
+) -> Option<usize> {
+    for place in 0..100 {
+        let to = cut_at(options, place + 1);
+        if !add_part(rt, alloc, sums, problem, cut_at(options, place), to) {
+            return None;
+        }
+        if to == END {
+            return Some(place + 1);
+        }
     }
-    let ends = add_part(rt, alloc, sums, problem, part)?;
-    Ok((parts, all_end && ends))
+    None
 }
 
 /// The same of the parts between all first options of a problem.
@@ -213,27 +248,25 @@ fn add_parts_of<R: Threads + Wait + Sync>(
     alloc: Global,
     sums: &mut [u64],
     problem: &str,
-) -> Result<(u32, bool), AllocError> {
-    let options = untried(rt, alloc, problem)?;
-    add_parts(rt, alloc, sums, problem, &options)
+) -> Option<usize> {
+    match untried_of(rt, alloc, problem) {
+        Some(options) => add_parts(rt, alloc, sums, problem, &options),
+        None => None,
+    }
 }
 
-/// The same of the Soma cube.
-fn add_parts_of_soma<R: Threads + Wait + Sync>(
-    rt: &R,
-    alloc: Global,
-    sums: &mut [u64],
-) -> Result<(u32, bool), AllocError> {
-    let problem = soma(alloc)?;
-    add_parts_of(rt, alloc, sums, &problem)
+/// Whether 55 parts add up to the whole.
+fn parts_are_whole<R: Threads + Wait + Sync>(rt: &R, alloc: Global) -> bool {
+    let mut sums = [0u64; 10];
+    match soma(alloc) {
+        Some(problem) => {
+            add_parts_of(rt, alloc, &mut sums, &problem) == Some(55) && sums == WHOLE
+        }
+        None => false,
+    }
 }
 
 #[test]
-fn parts_of_each_first_option_add_up(rt: HostRuntime) -> Result<(), Fail> {
-    let mut sums = [0u64; 10];
-    let (parts, all_end) = add_parts_of_soma(&rt, rt.alloc(), &mut sums)?;
-    assert_eq!(rt; parts, 55);
-    assert!(rt; all_end);
-    assert_eq!(rt; sums, WHOLE);
-    Ok(())
+fn parts_of_each_first_option_add_up(rt: HostRuntime) {
+    assert!(rt; parts_are_whole(&rt, rt.alloc()));
 }

@@ -10,6 +10,8 @@ mod cover_tests;
 #[cfg(test)]
 mod debug_tests;
 #[cfg(test)]
+mod ending;
+#[cfg(test)]
 mod equal_tests;
 #[cfg(test)]
 mod join_tests;
@@ -23,5 +25,7 @@ mod request;
 mod resume_tests;
 #[cfg(test)]
 mod table_tests;
+#[cfg(test)]
+mod texts;
 #[cfg(test)]
 mod worker_tests;

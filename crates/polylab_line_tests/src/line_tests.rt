@@ -1,207 +1,252 @@
 //! Words of the command line, and the exit statuses of those that name no job.
 
-use crate::request::{alone, by_table, shared};
-use byte_streams::Watched;
+use crate::ending::ending_under;
 use lab_pool::NoGate;
 use polylab_engine::{CoverJob, Job, PuzzleJob, TableKind};
-use polylab_line::{LineFault, Request, parse_line, status};
+use polylab_line::{LineFault, Request, parse_line};
 use std::alloc::Global;
+use std::process::Abort;
 use std::sync::Wait;
 use std::thread::Threads;
 
-/// How these words, or what was refused of them, end over no input: with which status, and whether something was written, and
-/// something told.
-fn ends_with<R: Threads + Wait + Sync>(
-    rt: &R,
-    alloc: Global,
-    request: Result<Request, LineFault>,
-) -> (u8, bool, bool) {
-    let mut output = Vec::new(alloc);
-    let mut faults = Vec::new(alloc);
-    let ended = status(
-        rt,
-        alloc,
-        request,
-        &NoGate,
-        &mut Watched::reader(b"".as_slice()),
-        &mut Watched::writer(&mut output),
-        &mut Watched::writer(&mut faults),
-    );
-    (ended, !output.is_empty(), !faults.is_empty())
-}
+/// Words, and what they ask for: a job, how many workers, and a table, if one is named.
+struct Line(&'static [&'static str], Job, u32, Option<TableKind>);
 
-/// The same, of words.
-fn words_end_with<R: Threads + Wait + Sync>(
-    rt: &R,
-    alloc: Global,
-    words: &[&str],
-) -> (u8, bool, bool) {
-    ends_with(rt, alloc, parse_line(alloc, words))
+static LINES: [Line; 22] = [
+    Line(&["cover"], Job::Cover(CoverJob::List), 1, None),
+    Line(
+        &["cover", "--workers", "2"],
+        Job::Cover(CoverJob::List),
+        2,
+        None,
+    ),
+    Line(
+        &["cover", "--first", "1"],
+        Job::Cover(CoverJob::First(1)),
+        1,
+        None,
+    ),
+    Line(
+        &["cover", "--workers=1", "--first=18446744073709551615"],
+        Job::Cover(CoverJob::First(u64::MAX)),
+        1,
+        None,
+    ),
+    Line(&["solve"], Job::Puzzle(PuzzleJob::Solve), 1, None),
+    Line(
+        &["solve", "--first=3"],
+        Job::Puzzle(PuzzleJob::First(3)),
+        1,
+        None,
+    ),
+    Line(
+        &["solve", "--table", "bits", "--first", "2"],
+        Job::Puzzle(PuzzleJob::First(2)),
+        1,
+        Some(TableKind::Bits),
+    ),
+    Line(
+        &["solve", "--workers=32"],
+        Job::Puzzle(PuzzleJob::Solve),
+        32,
+        None,
+    ),
+    Line(&["count"], Job::Puzzle(PuzzleJob::Count), 1, None),
+    Line(
+        &["count", "--workers", "8"],
+        Job::Puzzle(PuzzleJob::Count),
+        8,
+        None,
+    ),
+    Line(
+        &["count", "--classes"],
+        Job::Puzzle(PuzzleJob::Classes),
+        1,
+        None,
+    ),
+    Line(
+        &["count", "--workers", "4", "--classes"],
+        Job::Puzzle(PuzzleJob::Classes),
+        4,
+        None,
+    ),
+    Line(
+        &["count", "--table", "bits"],
+        Job::Puzzle(PuzzleJob::Count),
+        1,
+        Some(TableKind::Bits),
+    ),
+    Line(
+        &["solve", "--table=links"],
+        Job::Puzzle(PuzzleJob::Solve),
+        1,
+        Some(TableKind::Links),
+    ),
+    Line(
+        &["cover", "--workers", "3", "--table", "bits"],
+        Job::Cover(CoverJob::List),
+        3,
+        Some(TableKind::Bits),
+    ),
+    Line(
+        &["resume", "--table", "links"],
+        Job::Resume {
+            steps: None,
+            list: false,
+        },
+        1,
+        Some(TableKind::Links),
+    ),
+    Line(&["options"], Job::Puzzle(PuzzleJob::Options), 1, None),
+    Line(&["debug"], Job::Puzzle(PuzzleJob::Debug), 1, None),
+    Line(&["debug", "--cover"], Job::Cover(CoverJob::Debug), 1, None),
+    Line(
+        &["resume"],
+        Job::Resume {
+            steps: None,
+            list: false,
+        },
+        1,
+        None,
+    ),
+    Line(
+        &["resume", "--list", "--steps", "1"],
+        Job::Resume {
+            steps: Some(1),
+            list: true,
+        },
+        1,
+        None,
+    ),
+    Line(
+        &["resume", "--steps=18446744073709551615"],
+        Job::Resume {
+            steps: Some(u64::MAX),
+            list: false,
+        },
+        1,
+        None,
+    ),
+];
+
+/// Whether words ask for what stands there.
+fn is_read(alloc: Global, line: &Line) -> bool {
+    let wanted = Request {
+        job: line.1,
+        workers: line.2,
+        table: line.3,
+    };
+    match parse_line(alloc, line.0) {
+        Ok(read) => read == wanted,
+        Err(_) => false,
+    }
 }
 
 #[test]
 fn the_job_is_read(rt: HostRuntime) {
-    let rows: [(&[&str], Request); 22] = [
-        (&["cover"], alone(Job::Cover(CoverJob::List))),
-        (
-            &["cover", "--workers", "2"],
-            shared(Job::Cover(CoverJob::List), 2),
-        ),
-        (
-            &["cover", "--first", "1"],
-            alone(Job::Cover(CoverJob::First(1))),
-        ),
-        (
-            &["cover", "--workers=1", "--first=18446744073709551615"],
-            alone(Job::Cover(CoverJob::First(u64::MAX))),
-        ),
-        (&["solve"], alone(Job::Puzzle(PuzzleJob::Solve))),
-        (
-            &["solve", "--first=3"],
-            alone(Job::Puzzle(PuzzleJob::First(3))),
-        ),
-        (
-            &["solve", "--table", "bits", "--first", "2"],
-            by_table(alone(Job::Puzzle(PuzzleJob::First(2))), TableKind::Bits),
-        ),
-        (
-            &["solve", "--workers=32"],
-            shared(Job::Puzzle(PuzzleJob::Solve), 32),
-        ),
-        (&["count"], alone(Job::Puzzle(PuzzleJob::Count))),
-        (
-            &["count", "--workers", "8"],
-            shared(Job::Puzzle(PuzzleJob::Count), 8),
-        ),
-        (
-            &["count", "--classes"],
-            alone(Job::Puzzle(PuzzleJob::Classes)),
-        ),
-        (
-            &["count", "--workers", "4", "--classes"],
-            shared(Job::Puzzle(PuzzleJob::Classes), 4),
-        ),
-        (
-            &["count", "--table", "bits"],
-            by_table(alone(Job::Puzzle(PuzzleJob::Count)), TableKind::Bits),
-        ),
-        (
-            &["solve", "--table=links"],
-            by_table(alone(Job::Puzzle(PuzzleJob::Solve)), TableKind::Links),
-        ),
-        (
-            &["cover", "--workers", "3", "--table", "bits"],
-            by_table(shared(Job::Cover(CoverJob::List), 3), TableKind::Bits),
-        ),
-        (
-            &["resume", "--table", "links"],
-            by_table(
-                alone(Job::Resume {
-                    steps: None,
-                    list: false,
-                }),
-                TableKind::Links,
-            ),
-        ),
-        (&["options"], alone(Job::Puzzle(PuzzleJob::Options))),
-        (&["debug"], alone(Job::Puzzle(PuzzleJob::Debug))),
-        (&["debug", "--cover"], alone(Job::Cover(CoverJob::Debug))),
-        (
-            &["resume"],
-            alone(Job::Resume {
-                steps: None,
-                list: false,
-            }),
-        ),
-        (
-            &["resume", "--list", "--steps", "1"],
-            alone(Job::Resume {
-                steps: Some(1),
-                list: true,
-            }),
-        ),
-        (
-            &["resume", "--steps=18446744073709551615"],
-            alone(Job::Resume {
-                steps: Some(u64::MAX),
-                list: false,
-            }),
-        ),
-    ];
-    for (words, request) in rows {
-        assert!(rt; matches!(parse_line(rt.alloc(), words), Ok(read) if read == request));
+    for line in &LINES {
+        assert!(rt; is_read(rt.alloc(), line));
     }
 }
+
+/// Whether what words ask for, or what was refused of them, ends so over no input: with which status, and whether something is
+/// written, and something told.
+fn ends_so<R: Threads + Wait + Sync>(
+    rt: &R,
+    alloc: Global,
+    request: Result<Request, LineFault>,
+    status: u8,
+    writes: bool,
+    tells: bool,
+) -> bool {
+    let ending = ending_under(rt, alloc, &NoGate, request, b"".as_slice());
+    ending.status == status
+        && ending.written.is_empty() != writes
+        && ending.told.is_empty() != tells
+}
+
+/// Words of a line.
+struct Words(&'static [&'static str]);
+
+/// Asserts that each of these words ends so.
+fn assert_end<R: Abort + Threads + Wait + Sync>(
+    rt: &R,
+    alloc: Global,
+    lines: &[Words],
+    status: u8,
+    writes: bool,
+    tells: bool,
+) {
+    for line in lines {
+        let request = parse_line(alloc, line.0);
+        assert!(rt; ends_so(rt, alloc, request, status, writes, tells));
+    }
+}
+
+static HELPED: [Words; 6] = [
+    Words(&["--help"]),
+    Words(&["cover", "--help"]),
+    Words(&["count", "--help"]),
+    Words(&["debug", "--help"]),
+    Words(&["resume", "--help"]),
+    Words(&["--version"]),
+];
 
 #[test]
 fn help_is_given(rt: HostRuntime) {
-    let rows: [&[&str]; 6] = [
-        &["--help"],
-        &["cover", "--help"],
-        &["count", "--help"],
-        &["debug", "--help"],
-        &["resume", "--help"],
-        &["--version"],
-    ];
-    for words in rows {
-        assert!(rt; words_end_with(&rt, rt.alloc(), words) == (0, true, false));
-    }
+    assert_end(&rt, rt.alloc(), &HELPED, 0, true, false);
 }
+
+static REFUSED: [Words; 34] = [
+    Words(&[]),
+    Words(&["cover", "--first", "0"]),
+    Words(&["solve", "--first", "x"]),
+    Words(&["solve", "--first", "18446744073709551616"]),
+    Words(&["cover", "--first"]),
+    Words(&["cover", "--first", "1", "--workers", "2"]),
+    Words(&["solve", "--workers=32", "--first=1"]),
+    Words(&["count", "--first", "1"]),
+    Words(&["covers"]),
+    Words(&["cover", "--workers", "0"]),
+    Words(&["solve", "--workers", "33"]),
+    Words(&["count", "--workers", "x"]),
+    Words(&["count", "--workers", "-1"]),
+    Words(&["cover", "--workers"]),
+    Words(&["options", "--workers", "2"]),
+    Words(&["debug", "--workers", "2"]),
+    Words(&["solve", "--classes"]),
+    Words(&["count", "--classes", "2"]),
+    Words(&["--classes", "count"]),
+    Words(&["debug", "--classes"]),
+    Words(&["debug", "--cover", "2"]),
+    Words(&["resume", "--steps", "0"]),
+    Words(&["resume", "--steps", "x"]),
+    Words(&["resume", "--steps", "-1"]),
+    Words(&["resume", "--steps", "18446744073709551616"]),
+    Words(&["resume", "--steps"]),
+    Words(&["resume", "--list", "1"]),
+    Words(&["resume", "--workers", "2"]),
+    Words(&["count", "--table"]),
+    Words(&["cover", "--table", "bit"]),
+    Words(&["solve", "--table", "Links"]),
+    Words(&["options", "--table", "links"]),
+    Words(&["debug", "--table", "bits"]),
+    Words(&["resume", "--table", ""]),
+];
 
 #[test]
 fn other_words_are_refused(rt: HostRuntime) {
-    let rows: [&[&str]; 34] = [
-        &[],
-        &["cover", "--first", "0"],
-        &["solve", "--first", "x"],
-        &["solve", "--first", "18446744073709551616"],
-        &["cover", "--first"],
-        &["cover", "--first", "1", "--workers", "2"],
-        &["solve", "--workers=32", "--first=1"],
-        &["count", "--first", "1"],
-        &["covers"],
-        &["cover", "--workers", "0"],
-        &["solve", "--workers", "33"],
-        &["count", "--workers", "x"],
-        &["count", "--workers", "-1"],
-        &["cover", "--workers"],
-        &["options", "--workers", "2"],
-        &["debug", "--workers", "2"],
-        &["solve", "--classes"],
-        &["count", "--classes", "2"],
-        &["--classes", "count"],
-        &["debug", "--classes"],
-        &["debug", "--cover", "2"],
-        &["resume", "--steps", "0"],
-        &["resume", "--steps", "x"],
-        &["resume", "--steps", "-1"],
-        &["resume", "--steps", "18446744073709551616"],
-        &["resume", "--steps"],
-        &["resume", "--list", "1"],
-        &["resume", "--workers", "2"],
-        &["count", "--table"],
-        &["cover", "--table", "bit"],
-        &["solve", "--table", "Links"],
-        &["options", "--table", "links"],
-        &["debug", "--table", "bits"],
-        &["resume", "--table", ""],
-    ];
-    for words in rows {
-        assert!(rt; words_end_with(&rt, rt.alloc(), words) == (2, false, true));
-    }
+    assert_end(&rt, rt.alloc(), &REFUSED, 2, false, true);
 }
+
+static DONE: [Words; 2] = [Words(&["cover"]), Words(&["cover", "--workers", "2"])];
 
 #[test]
 fn a_job_is_done(rt: HostRuntime) {
-    for words in [
-        &["cover"].as_slice(),
-        &["cover", "--workers", "2"].as_slice(),
-    ] {
-        assert!(rt; words_end_with(&rt, rt.alloc(), words) == (3, false, true));
-    }
+    assert_end(&rt, rt.alloc(), &DONE, 3, false, true);
 }
 
 #[test]
 fn want_of_memory_has_its_status(rt: HostRuntime) {
-    assert!(rt; ends_with(&rt, rt.alloc(), Err(LineFault::OutOfMemory)) == (4, false, true));
+    assert!(rt; ends_so(&rt, rt.alloc(), Err(LineFault::OutOfMemory), 4, false, true));
 }

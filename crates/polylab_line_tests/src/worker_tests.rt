@@ -1,147 +1,121 @@
-//! Searches that workers share, through `run`: the same bytes for every number of workers, and workers who are at work at the same
+//! Searches that workers share, through `status`: the same bytes for every number of workers, and workers who are at work at the same
 //! time.
 
 use crate::class_tests::FIVE_DOMINOES;
-use crate::cover_tests::{SMALL_OUTPUT, are_equal_covers, equal_options};
-use crate::puzzle_tests::{SOMA, refuses, writes};
+use crate::cover_tests::{SMALL_OUTPUT, lists_equal};
+use crate::ending::{Row, assert_written_by, ending_of, ending_under, refuses};
+use crate::puzzle_tests::SOMA;
 use crate::request::{alone, shared};
-use byte_streams::Watched;
+use crate::texts::joined;
 use cover_bits::BitTable;
 use cover_problem::Problem;
 use drawn_problems::SMALL;
 use lab_book::{Book, Call, Entry};
-use lab_pool::{Gate, GateCall, NoGate, run_pool};
+use lab_pool::{Gate, GateCall, run_pool};
 use poly_place::compile;
 use poly_texts::{Puzzle, read_puzzle};
 use polylab_engine::{CoverJob, Job, PuzzleJob};
-use polylab_line::{Request, status};
-use std::alloc::{AllocError, Global};
+use polylab_line::Request;
+use std::alloc::Global;
+use std::process::Abort;
 use std::sync::Wait;
 use std::sync::atomic::{AtomicBool, AtomicU8, Ordering};
-use std::test::Fail;
 use std::thread;
 use std::thread::Threads;
 
-/// What a job writes of a text, and its exit status.
-fn written<R: Threads + Wait + Sync, G: Gate>(
-    rt: &R,
-    alloc: Global,
-    gate: &G,
-    request: Request,
-    text: &[u8],
-) -> (u8, Vec<u8>) {
-    let mut output = Vec::new(alloc);
-    let mut faults = Vec::new(alloc);
-    let ended = status(
-        rt,
-        alloc,
-        Ok(request),
-        gate,
-        &mut Watched::reader(text),
-        &mut Watched::writer(&mut output),
-        &mut Watched::writer(&mut faults),
-    );
-    (ended, output)
-}
-
-/// Whether two jobs are done, and write the same of a text.
-fn write_the_same<R: Threads + Wait + Sync>(
-    rt: &R,
-    alloc: Global,
-    one: Request,
-    other: Request,
-    text: &str,
-) -> bool {
-    let (ended, output) = written(rt, alloc, &NoGate, one, text.as_bytes());
-    let (other_ended, other_output) = written(rt, alloc, &NoGate, other, text.as_bytes());
-    ended == 0 && other_ended == 0 && output.as_slice() == other_output.as_slice()
-}
+/// The small problem, with what is written of its covers.
+pub static COVERED: Row = Row(SMALL, SMALL_OUTPUT);
 
 #[test]
 fn covers_are_listed_by_any_number_of_workers(rt: HostRuntime) {
-    for workers in [1, 2, 8, 32] {
-        let request = shared(Job::Cover(CoverJob::List), workers);
-        assert!(rt; writes(&rt, rt.alloc(), request, SMALL, SMALL_OUTPUT));
-    }
+    let job = Job::Cover(CoverJob::List);
+    assert_written_by(&rt, rt.alloc(), job, &[1, 2, 8, 32], &COVERED);
 }
+
+/// Five dominoes, with what is counted of them.
+pub static DOMINOES_COUNTED: Row = Row(
+    FIVE_DOMINOES,
+    "packings 960\noptions 65\nsteps 14487\nlevels 1 10 60 300 960 960\n",
+);
 
 #[test]
 fn packings_are_counted_by_any_number_of_workers(rt: HostRuntime) {
-    let counts = "packings 960\noptions 65\nsteps 14487\nlevels 1 10 60 300 960 960\n";
-    for workers in [1, 2, 8, 32] {
-        let request = shared(Job::Puzzle(PuzzleJob::Count), workers);
-        assert!(rt; writes(&rt, rt.alloc(), request, FIVE_DOMINOES, counts));
-    }
+    let job = Job::Puzzle(PuzzleJob::Count);
+    assert_written_by(&rt, rt.alloc(), job, &[1, 2, 8, 32], &DOMINOES_COUNTED);
 }
+
+/// The Soma cube, with what is written of its classes.
+static CLASSES: Row = Row(
+    SOMA,
+    "packings 11520\noptions 688\nsteps 1991327\n\
+     levels 1 55 1089 10633 48900 110149 72329 11520\nrotations 480\nsymmetries 240\n",
+);
 
 #[test]
 fn classes_are_counted_by_any_number_of_workers(rt: HostRuntime) {
-    let counts = "packings 11520\noptions 688\nsteps 1991327\n\
-                  levels 1 55 1089 10633 48900 110149 72329 11520\nrotations 480\nsymmetries 240\n";
-    for workers in [2, 8, 32] {
-        let request = shared(Job::Puzzle(PuzzleJob::Classes), workers);
-        assert!(rt; writes(&rt, rt.alloc(), request, SOMA, counts));
+    let job = Job::Puzzle(PuzzleJob::Classes);
+    assert_written_by(&rt, rt.alloc(), job, &[2, 8, 32], &CLASSES);
+}
+
+/// The Soma cube, with what is counted of it.
+pub static SOMA_COUNTED: Row = Row(
+    SOMA,
+    "packings 11520\noptions 688\nsteps 1991327\n\
+     levels 1 55 1089 10633 48900 110149 72329 11520\n",
+);
+
+/// Whether so many workers show the packings of a puzzle as one does.
+fn show_the_same<R: Threads + Wait + Sync>(
+    rt: &R,
+    alloc: Global,
+    workers: u32,
+    text: &str,
+) -> bool {
+    let job = Job::Puzzle(PuzzleJob::Solve);
+    let one = ending_of(rt, alloc, alone(job), text.as_bytes());
+    let more = ending_of(rt, alloc, shared(job, workers), text.as_bytes());
+    one.status == 0 && more.is_so(0, &one.written, b"")
+}
+
+/// Puzzles that are shown.
+static SHOWN: [&str; 2] = [FIVE_DOMINOES, SOMA];
+
+/// Asserts that so many workers show the packings of each puzzle as one does.
+fn assert_shown_by<R: Abort + Threads + Wait + Sync>(rt: &R, alloc: Global, workers: u32) {
+    for text in &SHOWN {
+        assert!(rt; show_the_same(rt, alloc, workers, text), "by {workers}");
     }
 }
 
 #[test]
 fn packings_are_shown_by_any_number_of_workers(rt: HostRuntime) {
     for workers in [2, 8, 32] {
-        let (one, more) = (
-            alone(Job::Puzzle(PuzzleJob::Solve)),
-            shared(Job::Puzzle(PuzzleJob::Solve), workers),
-        );
-        assert!(rt; write_the_same(&rt, rt.alloc(), one, more, FIVE_DOMINOES));
-        assert!(rt; write_the_same(&rt, rt.alloc(), one, more, SOMA));
+        assert_shown_by(&rt, rt.alloc(), workers);
     }
 }
 
-/// Whether a job under a gate is done, and writes this of a text.
-fn writes_so<R: Threads + Wait + Sync, G: Gate>(
-    rt: &R,
-    alloc: Global,
-    gate: &G,
-    request: Request,
-    text: &str,
-    wanted: &[u8],
-) -> bool {
-    let (ended, output) = written(rt, alloc, gate, request, text.as_bytes());
-    ended == 0 && output.as_slice() == wanted
+#[test]
+fn equal_options_are_listed_by_two_workers(rt: HostRuntime) {
+    assert!(rt; lists_equal(&rt, rt.alloc(), 2));
 }
 
-/// Whether two workers cover a text of 70,000 equal options.
-fn are_covered_by_two<R: Threads + Wait + Sync>(rt: &R, alloc: Global, text: &[u8]) -> bool {
-    let (ended, output) = written(
+/// Whether so many workers are refused for their number.
+fn are_refused<R: Threads + Wait + Sync>(rt: &R, alloc: Global, workers: u32) -> bool {
+    let request = shared(Job::Puzzle(PuzzleJob::Count), workers);
+    refuses(
         rt,
         alloc,
-        &NoGate,
-        shared(Job::Cover(CoverJob::List), 2),
-        text,
-    );
-    ended == 0 && are_equal_covers(&output)
-}
-
-/// The same of that text.
-fn are_equal_covered_by_two<R: Threads + Wait + Sync>(
-    rt: &R,
-    alloc: Global,
-) -> Result<bool, AllocError> {
-    let text = equal_options(alloc, 70_000)?;
-    Ok(are_covered_by_two(rt, alloc, &text))
-}
-
-#[test]
-fn equal_options_are_listed_by_two_workers(rt: HostRuntime) -> Result<(), Fail> {
-    assert!(rt; are_equal_covered_by_two(&rt, rt.alloc())?);
-    Ok(())
+        request,
+        FIVE_DOMINOES,
+        4,
+        "refused pool 1 BadWorkerCount\n",
+    )
 }
 
 #[test]
 fn other_numbers_of_workers_are_refused(rt: HostRuntime) {
     for workers in [0, 33] {
-        let request = shared(Job::Puzzle(PuzzleJob::Count), workers);
-        let line = "refused pool 1 BadWorkerCount\n";
-        assert!(rt; refuses(&rt, rt.alloc(), request, FIVE_DOMINOES, 4, line));
+        assert!(rt; are_refused(&rt, rt.alloc(), workers));
     }
 }
 
@@ -250,25 +224,29 @@ fn both_post<R: Threads + Wait + Sync>(rt: &R, alloc: Global, problem: &Problem)
 }
 
 /// The same of a puzzle's problem.
-fn both_post_of<R: Threads + Wait + Sync>(
-    rt: &R,
-    alloc: Global,
-    puzzle: &Puzzle,
-) -> Result<bool, Fail> {
-    let compiled = compile(alloc, puzzle)?;
-    Ok(both_post(rt, alloc, compiled.problem()))
+fn both_post_of<R: Threads + Wait + Sync>(rt: &R, alloc: Global, puzzle: &Puzzle) -> bool {
+    match compile(alloc, puzzle) {
+        Ok(compiled) => both_post(rt, alloc, compiled.problem()),
+        Err(_) => false,
+    }
 }
 
 /// The same of the Soma cube.
-fn both_post_of_soma<R: Threads + Wait + Sync>(rt: &R, alloc: Global) -> Result<bool, Fail> {
-    let puzzle = read_puzzle(alloc, SOMA.as_bytes())?;
-    both_post_of(rt, alloc, &puzzle)
+fn both_post_of_soma<R: Threads + Wait + Sync>(rt: &R, alloc: Global) -> bool {
+    match read_puzzle(alloc, SOMA.as_bytes()) {
+        Ok(puzzle) => both_post_of(rt, alloc, &puzzle),
+        Err(_) => false,
+    }
 }
 
 #[test]
-fn each_of_two_workers_posts(rt: HostRuntime) -> Result<(), Fail> {
-    assert!(rt; both_post_of_soma(&rt, rt.alloc())?);
-    Ok(())
+fn each_of_two_workers_posts(rt: HostRuntime) {
+    assert!(rt; both_post_of_soma(&rt, rt.alloc()));
+}
+
+/// Whether a worker was held until another one's post was answered.
+fn has_held(gate: &HoldsThePost) -> bool {
+    gate.answered.load(Ordering::SeqCst) && !gate.ran_out.load(Ordering::SeqCst)
 }
 
 /// Whether a job writes this of a text while a worker is held before its first post until another worker's is answered.
@@ -277,47 +255,40 @@ fn overlaps<R: Threads + Wait + Sync>(
     alloc: Global,
     request: Request,
     text: &str,
-    wanted: &[u8],
+    written: &str,
 ) -> bool {
     let gate = new_gate();
-    writes_so(rt, alloc, &gate, request, text, wanted)
-        && gate.answered.load(Ordering::SeqCst)
-        && !gate.ran_out.load(Ordering::SeqCst)
+    let ending = ending_under(rt, alloc, &gate, Ok(request), text.as_bytes());
+    ending.is_so(0, written.as_bytes(), b"") && has_held(&gate)
+}
+
+/// Whether the workers of the Soma cube's count overlap.
+fn workers_overlap<R: Threads + Wait + Sync>(rt: &R, alloc: Global) -> bool {
+    let request = shared(Job::Puzzle(PuzzleJob::Count), 2);
+    overlaps(rt, alloc, request, SOMA_COUNTED.0, SOMA_COUNTED.1)
 }
 
 #[test]
 fn one_worker_posts_while_another_is_held(rt: HostRuntime) {
-    let counts = b"packings 11520\noptions 688\nsteps 1991327\n\
-                   levels 1 55 1089 10633 48900 110149 72329 11520\n";
-    assert!(rt;
-        overlaps(
-            &rt,
-            rt.alloc(),
-            shared(Job::Puzzle(PuzzleJob::Count), 2),
-            SOMA,
-            counts
-        )
-    );
+    assert!(rt; workers_overlap(&rt, rt.alloc()));
 }
 
 /// Whether the workers of a command overlap, too.
-fn workers_of_pool_overlap<R: Threads + Wait + Sync>(
-    rt: &R,
-    alloc: Global,
-) -> Result<bool, AllocError> {
-    let text = format!(in alloc; "{SOMA}\n%%\npark\npool 2\nsteps\n")?;
-    let answers = b"parked\npooled\nsteps 1991327\n";
-    Ok(overlaps(
-        rt,
-        alloc,
-        alone(Job::Puzzle(PuzzleJob::Debug)),
-        &text,
-        answers,
-    ))
+fn workers_of_pool_overlap<R: Threads + Wait + Sync>(rt: &R, alloc: Global) -> bool {
+    let answers = "parked\npooled\nsteps 1991327\n";
+    match joined(alloc, &[SOMA, "\n%%\npark\npool 2\nsteps\n"]) {
+        Some(text) => overlaps(
+            rt,
+            alloc,
+            alone(Job::Puzzle(PuzzleJob::Debug)),
+            &text,
+            answers,
+        ),
+        None => false,
+    }
 }
 
 #[test]
-fn workers_of_a_command_overlap(rt: HostRuntime) -> Result<(), Fail> {
-    assert!(rt; workers_of_pool_overlap(&rt, rt.alloc())?);
-    Ok(())
+fn workers_of_a_command_overlap(rt: HostRuntime) {
+    assert!(rt; workers_of_pool_overlap(&rt, rt.alloc()));
 }

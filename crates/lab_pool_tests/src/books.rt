@@ -58,8 +58,25 @@ pub fn begins_with(book: &Book<'_>, old: &Book<'_>) -> bool {
     true
 }
 
+/// How a book is begun.
+#[derive(Clone, Copy)]
+pub enum Start {
+    /// It is new: the whole run.
+    New,
+    /// It is new: the run from the cut 4 on, 23 steps.
+    Rest,
+    /// Worker 5 posted 30 steps of the whole run: three entries.
+    Begun,
+    /// Its tile before the cut 4 is held after five steps, and its other tile waits.
+    HeldBefore,
+    /// The same, and the other tile is closed after its 23 steps.
+    HeldAlone,
+    /// Its only tile is held at its first mark.
+    Held,
+}
+
 /// A worker's search of a tile of a book.
-pub fn lease_in<'p>(alloc: Global, book: &mut Book<'p>, worker: u8, id: u64) -> Option<Search<'p>>
+fn lease_in<'p>(alloc: Global, book: &mut Book<'p>, worker: u8, id: u64) -> Option<Search<'p>>
     requires { worker ≤ 31 }
 {
     let problem = book.problem();
@@ -69,58 +86,15 @@ pub fn lease_in<'p>(alloc: Global, book: &mut Book<'p>, worker: u8, id: u64) -> 
     begin(alloc, problem, leased)
 }
 
-/// Whether a worker posts so many steps of a tile, and parks it.
-fn posts_and_parks(alloc: Global, book: &mut Book<'_>, worker: u8, id: u64, steps: u32) -> bool
+/// Whether a worker posts so many steps of a tile, and closes it, or else parks it.
+fn posts(alloc: Global, book: &mut Book<'_>, worker: u8, id: u64, steps: u32, closes: bool) -> bool
     requires { worker ≤ 31 }
 {
     let Some(mut search) = lease_in(alloc, book, worker, id) else {
         return false;
     };
     let posted = search.post_to(book, steps).is_some();
-    search.park_in(book) && posted
-}
-
-/// A book, once its calls were answered.
-fn called(book: Book<'_>, are_answered: bool) -> Option<Book<'_>> {
-    if are_answered { Some(book) } else { None }
-}
-
-/// The book of the whole run in which worker 5 posted 30 steps: three entries.
-pub fn begun<'p>(alloc: Global, problem: &'p Problem) -> Option<Book<'p>> {
-    let Ok(mut book) = Book::new(alloc, problem) else {
-        return None;
-    };
-    let is_parked = posts_and_parks(alloc, &mut book, 5, 0, 30);
-    called(book, is_parked)
-}
-
-/// Whether the history of a book begins with the three entries of another one.
-fn begins_with_three(book: &Book<'_>, old: &Book<'_>) -> bool {
-    old.history().len() == 3 && begins_with(book, old)
-}
-
-/// The same of the book in which 30 steps are posted.
-fn begins_so(alloc: Global, problem: &Problem, book: &Book<'_>) -> bool {
-    let Some(old) = begun(alloc, problem) else {
-        return false;
-    };
-    begins_with_three(book, &old)
-}
-
-/// Whether a book is the small problem's, finished, and goes on from that one.
-pub fn is_gone_on(alloc: Global, problem: &Problem, book: &Book<'_>) -> bool {
-    is_done(book, 43) && begins_so(alloc, problem, book)
-}
-
-/// Whether a worker posts so many steps of a tile, and closes it.
-pub fn posts_and_closes(alloc: Global, book: &mut Book<'_>, worker: u8, id: u64, steps: u32) -> bool
-    requires { worker ≤ 31 }
-{
-    let Some(mut search) = lease_in(alloc, book, worker, id) else {
-        return false;
-    };
-    let posted = search.post_to(book, steps).is_some();
-    search.close_in(book) && posted
+    search.end_in(book, closes) && posted
 }
 
 /// Whether worker 5 posts five steps of the whole run, which it splits at the cut 4, and parks on demand: its tile is then held,
@@ -132,29 +106,22 @@ fn holds_first(alloc: Global, book: &mut Book<'_>) -> bool {
     let parted = search.split_in(book, 5, 4) == Some(1);
     let posted = search.post_to(book, 0).is_some();
     let asked = book.request_stop(6, 0).is_ok();
-    search.park_in(book) && parted && posted && asked
+    search.end_in(book, false) && parted && posted && asked
 }
 
-/// The book whose tile before the cut 4 is held after five steps, and whose other tile waits.
-pub fn held_before<'p>(alloc: Global, problem: &'p Problem) -> Option<Book<'p>> {
-    let Ok(mut book) = Book::new(alloc, problem) else {
-        return None;
-    };
-    let is_held = holds_first(alloc, &mut book);
-    called(book, is_held)
+/// Whether a new book's calls are answered, by which it is begun so.
+fn begins(alloc: Global, book: &mut Book<'_>, start: Start) -> bool {
+    match start {
+        Start::New | Start::Rest => true,
+        Start::Begun => posts(alloc, book, 5, 0, 30, false),
+        Start::HeldBefore => holds_first(alloc, book),
+        Start::HeldAlone => holds_first(alloc, book) && posts(alloc, book, 6, 1, 23, true),
+        Start::Held => book.request_stop(5, 0).is_ok(),
+    }
 }
 
-/// The same book, whose other tile is closed after its 23 steps.
-pub fn held_alone<'p>(alloc: Global, problem: &'p Problem) -> Option<Book<'p>> {
-    let Some(mut book) = held_before(alloc, problem) else {
-        return None;
-    };
-    let is_closed = posts_and_closes(alloc, &mut book, 6, 1, 23);
-    called(book, is_closed)
-}
-
-/// The book of the run from the cut 4 on: 23 steps.
-pub fn from_the_cut<'p>(alloc: Global, problem: &'p Problem) -> Option<Book<'p>> {
+/// A new book of the run from the cut 4 on.
+fn rest_of<'p>(alloc: Global, problem: &'p Problem) -> Option<Book<'p>> {
     let state = State {
         label: Label::X5,
         path: Vec::new(alloc),
@@ -166,11 +133,24 @@ pub fn from_the_cut<'p>(alloc: Global, problem: &'p Problem) -> Option<Book<'p>>
     }
 }
 
-/// The book whose only tile is held at its first mark.
-pub fn all_held<'p>(alloc: Global, problem: &'p Problem) -> Option<Book<'p>> {
-    let Ok(mut book) = Book::new(alloc, problem) else {
+/// A new book, of the run or of its rest.
+fn new_book<'p>(alloc: Global, problem: &'p Problem, start: Start) -> Option<Book<'p>> {
+    match start {
+        Start::Rest => rest_of(alloc, problem),
+        _ => Book::new(alloc, problem).ok(),
+    }
+}
+
+/// A book, once its calls were answered.
+fn called(book: Book<'_>, are_answered: bool) -> Option<Book<'_>> {
+    if are_answered { Some(book) } else { None }
+}
+
+/// A book that is begun so; None where a call isn't answered as it should be.
+pub fn book_of<'p>(alloc: Global, problem: &'p Problem, start: Start) -> Option<Book<'p>> {
+    let Some(mut book) = new_book(alloc, problem, start) else {
         return None;
     };
-    let is_asked = book.request_stop(5, 0).is_ok();
-    called(book, is_asked)
+    let are_answered = begins(alloc, &mut book, start);
+    called(book, are_answered)
 }

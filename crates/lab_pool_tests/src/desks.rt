@@ -9,7 +9,7 @@ use lab_desk::{Desk, Desking, Seat};
 use std::alloc::Global;
 use std::marker::Brand;
 use std::sync::Wait;
-use std::sync::ledger::{Blank, Ledger};
+use std::sync::ledger::Blank;
 use std::thread::Threads;
 use x_steps::Refused;
 
@@ -26,8 +26,8 @@ pub enum Work {
     Nothing,
     /// Both ask the worker of a tile that there isn't to stop, which is refused, more than 65,536 times together.
     Ask,
-    /// The second waits for a tile while the first ends the only one, and is given it, or isn't.
-    Wait { end: End, given: bool },
+    /// The second waits for a tile while the first ends the only one so, and is given it, or isn't.
+    Wait(End, bool),
 }
 
 /// How the seats are handed in.
@@ -168,19 +168,28 @@ fn ask<L: Desking, R: Wait>(
     true
 }
 
-/// Whether the second seat, which waits while the first ends the only tile so, is told what it should be.
-fn wait<L: Desking + Send + Sync, R: Threads + Wait + Sync>(
+/// Whether the second seat searches the last 13 steps.
+fn goes_on<'p, L: Desking, R: Wait>(
     rt: &R,
-    desk: &Desk<'_, L>,
+    alloc: Global,
+    desk: &Desk<'p, L>,
+    second: &mut Seat<L>,
+) -> bool {
+    let search = lease(rt, alloc, desk, second, 0);
+    ends(rt, desk, second, search, 13)
+}
+
+/// Whether the second seat stops the first one, and searches the rest.
+fn stop<'p, L: Desking, R: Wait>(
+    rt: &R,
+    alloc: Global,
+    desk: &Desk<'p, L>,
     first: &mut Seat<L>,
     second: &mut Seat<L>,
-    end: End,
-    given: bool,
 ) -> bool {
-    match given_while_ended(rt, desk, first, second, end) {
-        Some(is_given) => is_given == given,
-        None => false,
-    }
+    let stopped = stops(rt, alloc, desk, first, second) && none_waits(rt, desk, second);
+    let search = take_held(rt, alloc, desk, second, 0);
+    ends(rt, desk, second, search, 38) && stopped
 }
 
 /// Whether the two seats do what they have to.
@@ -188,119 +197,82 @@ fn act<'p, L: Desking + Send + Sync, R: Threads + Wait + Sync>(
     rt: &R,
     alloc: Global,
     desk: &Desk<'p, L>,
-    first: &mut Seat<L>,
-    second: &mut Seat<L>,
+    seats: &mut [Seat<L>],
     todo: Work,
 ) -> bool {
+    let [first, second] = seats else {
+        return false;
+    };
     match todo {
         Work::Share => share(rt, alloc, desk, first, second),
-        Work::GoOn => {
-            let search = lease(rt, alloc, desk, second, 0);
-            ends(rt, desk, second, search, 13)
-        }
-        Work::Stop => {
-            let stopped = stops(rt, alloc, desk, first, second) && none_waits(rt, desk, second);
-            let search = take_held(rt, alloc, desk, second, 0);
-            ends(rt, desk, second, search, 38) && stopped
-        }
+        Work::GoOn => goes_on(rt, alloc, desk, second),
+        Work::Stop => stop(rt, alloc, desk, first, second),
         Work::Nothing => true,
         Work::Ask => ask(rt, desk, first, second),
-        Work::Wait { end, given } => wait(rt, desk, first, second, end, given),
+        Work::Wait(end, given) => { given_while_ended(rt, desk, first, second, end) == Some(given) }
     }
 }
 
-/// The two seats of a desk.
-fn two<L: Ledger>(seats: Vec<Seat<L>>) -> Option<(Seat<L>, Seat<L>)> {
-    let mut seats = seats;
-    let second = seats.pop()?;
-    let first = seats.pop()?;
-    Some((first, second))
-}
-
-/// The one seat after the other.
-fn row<L: Ledger>(alloc: Global, one: Seat<L>, other: Option<Seat<L>>) -> Option<Vec<Seat<L>>> {
-    let mut seats = Vec::new(alloc);
-    if seats.push(one).is_err() {
-        return None;
-    }
-    if let Some(other) = other {
-        if seats.push(other).is_err() {
-            return None;
-        }
-    }
-    Some(seats)
-}
-
-/// The only one of some seats, if it has this number.
-fn only<L: Ledger>(seats: Vec<Seat<L>>, number: u8) -> Option<Seat<L>> {
-    let mut seats = seats;
-    let seat = seats.pop()?;
-    if !seats.is_empty() || seat.number() != number {
-        return None;
-    }
-    Some(seat)
-}
-
-/// The desk of two seats and the one seat that came back, if the reason has the number 10, and the seat this one.
-fn given_back<'p, L: Desking>(
-    refused: Refused<BookFault, (Desk<'p, L>, Vec<Seat<L>>)>,
-    number: u8,
-) -> Option<(Desk<'p, L>, Seat<L>)> {
-    let Refused { fault, given } = refused;
-    let (desk, seats) = given;
-    if fault.number() != Some(10) || desk.seats() != 2 {
-        return None;
-    }
-    Some((desk, only(seats, number)?))
-}
-
-/// What comes back of a desk that isn't finished by one seat of its two.
-fn refused<'p, L: Desking>(
-    alloc: Global,
+/// The book of a desk that these seats and one more finish.
+fn finished_with<'p, L: Desking>(
     desk: Desk<'p, L>,
-    seat: Seat<L>,
-) -> Option<(Desk<'p, L>, Seat<L>)> {
-    let number = seat.number();
-    match desk.finish(row(alloc, seat, None)?) {
-        Ok(_) => None,
-        Err(refused) => given_back(refused, number),
-    }
-}
-
-/// The book of a desk that these seats finish.
-fn finished<'p, L: Desking>(
-    alloc: Global,
-    desk: Desk<'p, L>,
-    one: Seat<L>,
-    other: Seat<L>,
+    seats: Vec<Seat<L>>,
+    last: Seat<L>,
 ) -> Option<Book<'p>> {
-    let seats = row(alloc, one, Some(other))?;
+    let mut seats = seats;
+    if seats.push(last).is_err() {
+        return None;
+    }
     desk.finish(seats).ok()
 }
 
-/// The same, after the first seat was handed in alone.
+/// Whether these are a desk of two seats, and the first of them alone.
+fn is_one_short<L: Desking>(desk: &Desk<'_, L>, seats: &[Seat<L>]) -> bool {
+    match seats {
+        [first] => desk.seats() == 2 && first.number() == 0,
+        _ => false,
+    }
+}
+
+/// The book of a desk that was refused for its missing seat with the number 10, once that is there.
 fn finished_late<'p, L: Desking>(
-    alloc: Global,
-    desk: Desk<'p, L>,
-    first: Seat<L>,
-    second: Seat<L>,
+    refused: Refused<BookFault, (Desk<'p, L>, Vec<Seat<L>>)>,
+    last: Seat<L>,
 ) -> Option<Book<'p>> {
-    let (desk, first) = refused(alloc, desk, first)?;
-    finished(alloc, desk, first, second)
+    let Refused { fault, given } = refused;
+    let (desk, seats) = given;
+    if fault.number() == Some(10) && is_one_short(&desk, &seats) {
+        finished_with(desk, seats, last)
+    } else {
+        None
+    }
+}
+
+/// The book of a desk, once the first seat is handed in alone, and then both are.
+fn finished_twice<'p, L: Desking>(desk: Desk<'p, L>, seats: Vec<Seat<L>>) -> Option<Book<'p>> {
+    let mut seats = seats;
+    let Some(last) = seats.pop() else {
+        return None;
+    };
+    match desk.finish(seats) {
+        Ok(_) => None,
+        Err(refused) => finished_late(refused, last),
+    }
+}
+
+/// The book of a desk, once its seats are handed in the other way round.
+fn finished_turned<'p, L: Desking>(desk: Desk<'p, L>, seats: Vec<Seat<L>>) -> Option<Book<'p>> {
+    let mut seats = seats;
+    seats.reverse();
+    desk.finish(seats).ok()
 }
 
 /// The book of a desk, once its seats are handed in so.
-fn finished_so<'p, L: Desking>(
-    alloc: Global,
-    desk: Desk<'p, L>,
-    first: Seat<L>,
-    second: Seat<L>,
-    way: Way,
-) -> Option<Book<'p>> {
+fn finished<'p, L: Desking>(desk: Desk<'p, L>, seats: Vec<Seat<L>>, way: Way) -> Option<Book<'p>> {
     match way {
-        Way::All => finished(alloc, desk, first, second),
-        Way::OneShort => finished_late(alloc, desk, first, second),
-        Way::Turned => finished(alloc, desk, second, first),
+        Way::All => desk.finish(seats).ok(),
+        Way::OneShort => finished_twice(desk, seats),
+        Way::Turned => finished_turned(desk, seats),
     }
 }
 
@@ -313,11 +285,12 @@ fn finished_by<'p, L: Desking + Send + Sync, R: Threads + Wait + Sync>(
     todo: Work,
     way: Way,
 ) -> Option<Book<'p>> {
-    let (mut first, mut second) = two(seats)?;
-    if !act(rt, alloc, &desk, &mut first, &mut second, todo) {
-        return None;
+    let mut seats = seats;
+    if act(rt, alloc, &desk, &mut seats, todo) {
+        finished(desk, seats, way)
+    } else {
+        None
     }
-    finished_so(alloc, desk, first, second, way)
 }
 
 /// The same of a desk of this ledger over a book.

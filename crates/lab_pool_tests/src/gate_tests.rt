@@ -5,7 +5,7 @@ use cover_bits::BitTable;
 use cover_problem::{Problem, read_cover};
 use lab_book::Book;
 use lab_pool::{Gate, GateCall};
-use std::alloc::{AllocError, Global};
+use std::alloc::Global;
 use std::sync::Wait;
 use std::sync::atomic::{AtomicBool, AtomicU64, Ordering};
 use std::thread;
@@ -95,31 +95,42 @@ static PLACES: [&str; 13] = [
     " 210 310", " 300 310", " 300 400", " 310 410", " 400 410",
 ];
 
-/// Adds the options of a piece.
-fn add_options(text: &mut String, piece: &str) -> Result<(), AllocError> {
-    for place in PLACES {
-        text.push_str("\noption ")?;
-        text.push_str(piece)?;
-        text.push_str(place)?;
-    }
-    Ok(())
+/// Whether a word is added to a text.
+fn add(text: &mut String, word: &str) -> bool {
+    text.push_str(word).is_ok()
 }
 
-/// The text of five dominoes in the box 5 2 1: eight ways to lay them, 120 ways to name them.
-fn dominoes_text(alloc: Global) -> Result<String, AllocError> {
-    let mut text = String::new(alloc);
-    text.push_str("items A B C D E 000 010 100 110 200 210 300 310 400 410")?;
-    for piece in PIECES {
-        add_options(&mut text, piece)?;
+/// Whether the options of a piece are added.
+fn add_options(text: &mut String, piece: &str) -> bool {
+    for place in &PLACES {
+        if !add(text, "\noption ") || !add(text, piece) || !add(text, place) {
+            return false;
+        }
     }
-    Ok(text)
+    true
 }
 
-/// How many visits and steps a book has; none where there is no book.
-fn visits_and_steps(book: &Option<Book<'_>>) -> (u128, u128) {
+/// Whether the text of five dominoes in the box 5 2 1 is added: eight ways to lay them, 120 ways to name them.
+fn add_dominoes(text: &mut String) -> bool {
+    if !add(
+        text,
+        "items A B C D E 000 010 100 110 200 210 300 310 400 410",
+    ) {
+        return false;
+    }
+    for piece in &PIECES {
+        if !add_options(text, piece) {
+            return false;
+        }
+    }
+    true
+}
+
+/// Whether a book has these visits and steps.
+fn has_counts(book: &Option<Book<'_>>, visits: u128, steps: u128) -> bool {
     match book {
-        Some(book) => (book.visited(), book.steps()),
-        None => (0, 0),
+        Some(book) => book.visited() == visits && book.steps() == steps,
+        None => false,
     }
 }
 
@@ -127,18 +138,21 @@ fn visits_and_steps(book: &Option<Book<'_>>) -> (u128, u128) {
 fn is_stolen<R: Threads + Wait + Sync>(rt: &R, alloc: Global, problem: &Problem) -> bool {
     let gate = UntilStolen::new();
     let book = finished_under::<BitTable, R, _>(rt, alloc, problem, 2, &gate);
-    gate.is_right() && visits_and_steps(&book) == (960, 14_487)
+    gate.is_right() && has_counts(&book, 960, 14_487)
 }
 
-/// The same of the dominoes' problem, which is made here.
-fn is_stolen_there<R: Threads + Wait + Sync>(rt: &R, alloc: Global) -> bool {
-    let Ok(text) = dominoes_text(alloc) else {
-        return false;
-    };
+/// The same of the dominoes' text.
+fn is_stolen_in<R: Threads + Wait + Sync>(rt: &R, alloc: Global, text: &str) -> bool {
     let Ok(problem) = read_cover(alloc, text.as_bytes()) else {
         return false;
     };
     is_stolen(rt, alloc, &problem)
+}
+
+/// The same of the text that is put together here.
+fn is_stolen_there<R: Threads + Wait + Sync>(rt: &R, alloc: Global) -> bool {
+    let mut text = String::new(alloc);
+    add_dominoes(&mut text) && is_stolen_in(rt, alloc, &text)
 }
 
 #[test]

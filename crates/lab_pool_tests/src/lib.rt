@@ -8,6 +8,8 @@ mod begun_tests;
 #[cfg(test)]
 mod books;
 #[cfg(test)]
+mod cases;
+#[cfg(test)]
 mod desk_tests;
 #[cfg(test)]
 mod desks;

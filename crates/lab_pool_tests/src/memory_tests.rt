@@ -3,14 +3,15 @@
 //! `dev/check_memory` runs these tests with one growth refused, each growth in turn.
 ghost use Rattle.std.specs.Prelude.{◌≡◌};
 
-use crate::books::{begins_with, begun};
+use crate::books::{Start, begins_with, book_of};
+use crate::pools::{finished_under, run_on};
 use cover_bits::BitTable;
 use cover_problem::{Problem, read_cover};
-use drawn_books::{grows, has_tiles, tiles_of};
+use drawn_books::has_tiles;
 use drawn_problems::SMALL;
-use lab_book::{Book, Tile};
+use lab_book::Book;
 use lab_desk::{Desk, Desking, Seat};
-use lab_pool::{NoGate, PoolFault, run_pool, run_pool_on};
+use lab_pool::{NoGate, PoolFault, run_pool};
 use std::alloc::Global;
 use std::marker::Brand;
 use std::sync::Wait;
@@ -19,22 +20,50 @@ use std::test::Fail;
 use std::thread::Threads;
 use x_steps::Refused;
 
-/// Whether a book is as another one was that had these tiles.
-fn is_as_before(book: &Book<'_>, copy: &Book<'_>, tiles: &[Tile<'_>]) -> bool {
-    has_tiles(book, tiles) && begins_with(book, copy) && begins_with(copy, book)
+/// How a test ends.
+#[derive(Clone, Copy)]
+enum End {
+    Right,
+    Wrong,
+    /// Memory is refused to what is made before the call.
+    Unset,
+    /// It is refused to the one growth right before the call.
+    Unready,
+}
+
+impl End {
+    /// Right where this is so, and wrong where it isn't.
+    fn of(is_right: bool) -> End {
+        if is_right { End::Right } else { End::Wrong }
+    }
+
+    /// Whether it is right; told as an error where the call isn't made.
+    fn is_right(self) -> Result<bool, Fail> {
+        match self {
+            End::Right => Ok(true),
+            End::Wrong => Ok(false),
+            End::Unset => Err(Fail::from("refused in the setting")),
+            End::Unready => Err(Fail::from("refused before the call")),
+        }
+    }
+}
+
+/// One growth: those before it are a setting's, those after it the call's.
+fn grows(alloc: Global) -> bool {
+    vec![in alloc; 0u8; 1].is_ok()
+}
+
+/// Whether a book is as another one.
+fn is_as_before(book: &Book<'_>, copy: &Book<'_>) -> bool {
+    has_tiles(book, copy.tiles()) && begins_with(book, copy) && begins_with(copy, book)
 }
 
 /// Whether a desk has two seats, 0 and 1.
 fn has_two<L: Desking>(desk: &Desk<'_, L>, seats: &[Seat<L>]) -> bool {
-    if desk.seats() != 2 || seats.len() != 2 {
-        return false;
+    match seats {
+        [first, second] => desk.seats() == 2 && first.number() == 0 && second.number() == 1,
+        _ => false,
     }
-    for (place, seat) in seats.iter().enumerate() {
-        if seat.number() as usize != place {
-            return false;
-        }
-    }
-    true
 }
 
 /// Whether a desk is made.
@@ -51,7 +80,6 @@ fn is_made_again<'p, L: Desking>(
     blank: Blank,
     book: Book<'p>,
     copy: &Book<'p>,
-    tiles: &[Tile<'p>],
 ) -> bool
     requires name { blank.name ≡ L.name }
     requires parts { (blank.parts ≡ L.parts) × (blank.parts ≡ 2) }
@@ -60,60 +88,42 @@ fn is_made_again<'p, L: Desking>(
     requires part { book.branch ≡ L.part }
     requires begin { book.first ≡ L.begin }
 {
-    let (blank, book) = match Desk::<L>::new(alloc, blank, book, 2) {
-        Ok((desk, seats)) => return has_two(&desk, &seats),
-        Err(given) => given,
-    };
-    is_as_before(&book, copy, tiles) && is_made(Desk::<L>::new(alloc, blank, book, 2))
-}
-
-/// The same of a desk of two seats.
-fn is_desk_made<'p>(alloc: Global, book: Book<'p>, copy: &Book<'p>, tiles: &[Tile<'p>]) -> bool {
-    is_made_again::<Brand>(alloc, Blank::new(2), book, copy, tiles)
-}
-
-/// The book of a problem in which 30 steps are posted, which has to be there.
-fn begun_there<'p>(alloc: Global, problem: &'p Problem) -> Result<Book<'p>, Fail> {
-    match begun(alloc, problem) {
-        Some(book) => Ok(book),
-        None => Err(Fail::from("not begun")),
+    match Desk::<L>::new(alloc, blank, book, 2) {
+        Ok((desk, seats)) => has_two(&desk, &seats),
+        Err((blank, book)) => {
+            is_as_before(&book, copy) && is_made(Desk::<L>::new(alloc, blank, book, 2))
+        }
     }
 }
 
-/// The same of a problem's book in which 30 steps are posted, as in this one.
-fn is_begun_made<'p>(
-    alloc: Global,
-    problem: &'p Problem,
-    copy: &Book<'p>,
-    tiles: &[Tile<'p>],
-) -> Result<bool, Fail> {
-    let book = begun_there(alloc, problem)?;
-    grows(alloc)?;
-    Ok(is_desk_made(alloc, book, copy, tiles))
+/// The same of a desk of two seats.
+fn is_desk_made<'p>(alloc: Global, book: Book<'p>, copy: &Book<'p>) -> bool {
+    is_made_again::<Brand>(alloc, Blank::new(2), book, copy)
 }
 
-/// The same of the tiles that the other book has.
-fn is_made_like<'p>(alloc: Global, problem: &'p Problem, copy: &Book<'p>) -> Result<bool, Fail> {
-    let tiles = tiles_of(alloc, copy)?;
-    is_begun_made(alloc, problem, copy, &tiles)
+/// How a test of such a desk ends, behind one growth.
+fn end_behind<'p>(alloc: Global, book: Book<'p>, copy: &Book<'p>) -> End {
+    if grows(alloc) {
+        End::of(is_desk_made(alloc, book, copy))
+    } else {
+        End::Unready
+    }
+}
+
+/// The same of the book in which 30 steps are posted, as in this one.
+fn end_beside(alloc: Global, copy: &Book<'_>) -> End {
+    match book_of(alloc, copy.problem(), Start::Begun) {
+        Some(book) => end_behind(alloc, book, copy),
+        None => End::Unset,
+    }
 }
 
 /// The same where the other book is made here.
-fn is_begun_desk_made(alloc: Global, problem: &Problem) -> Result<bool, Fail> {
-    let copy = begun_there(alloc, problem)?;
-    is_made_like(alloc, problem, &copy)
-}
-
-/// The same of the small problem.
-fn is_small_desk_made(alloc: Global) -> Result<bool, Fail> {
-    let problem = read_cover(alloc, SMALL.as_bytes())?;
-    is_begun_desk_made(alloc, &problem)
-}
-
-#[test]
-fn a_refused_desk_gives_its_book_back(rt: HostRuntime) -> Result<(), Fail> {
-    assert!(rt; is_small_desk_made(rt.alloc())?);
-    Ok(())
+fn desk_end(alloc: Global, problem: &Problem) -> End {
+    match book_of(alloc, problem, Start::Begun) {
+        Some(copy) => end_beside(alloc, &copy),
+        None => End::Unset,
+    }
 }
 
 /// Whether a book is finished, with the small problem's cover and its steps. It takes no memory to tell.
@@ -123,53 +133,72 @@ fn is_small_finished(book: &Book<'_>) -> bool {
 
 /// Whether one worker finishes a book of the small problem.
 fn finishes_on<R: Threads + Wait + Sync>(rt: &R, alloc: Global, book: Book<'_>) -> bool {
-    if book.leased() > 0 {
-        return false;
-    }
-    match run_pool_on::<BitTable, _, _>(rt, alloc, book, 1, &NoGate) {
-        Ok(book) => is_small_finished(&book),
-        Err(_) => false,
+    match run_on(rt, alloc, book, 1) {
+        Some((end, book)) => end == 0 && is_small_finished(&book),
+        None => false,
     }
 }
 
 /// Whether one worker finishes that problem's run.
 fn finishes<R: Threads + Wait + Sync>(rt: &R, alloc: Global, problem: &Problem) -> bool {
-    match run_pool::<BitTable, _, _>(rt, alloc, problem, 1, &NoGate) {
-        Ok(book) => is_small_finished(&book),
-        Err(_) => false,
+    match finished_under::<BitTable, R, _>(rt, alloc, problem, 1, &NoGate) {
+        Some(book) => is_small_finished(&book),
+        None => false,
     }
 }
 
-/// Whether it does, on a second try where the first is refused: with the book that came back, or with none where there was no memory for
-/// one.
+/// Whether it does after a refusal, with the book that came back, or with none where there was no memory for one.
+fn finishes_given<R: Threads + Wait + Sync>(
+    rt: &R,
+    alloc: Global,
+    problem: &Problem,
+    refused: Refused<PoolFault, Option<Book<'_>>>,
+) -> bool {
+    let Refused { fault, given } = refused;
+    let is_memory = fault == PoolFault::OutOfMemory;
+    match given {
+        Some(book) => is_memory && finishes_on(rt, alloc, book),
+        None => is_memory && finishes(rt, alloc, problem),
+    }
+}
+
+/// Whether it does, on a second try where the first is refused.
 fn finishes_again<R: Threads + Wait + Sync>(rt: &R, alloc: Global, problem: &Problem) -> bool {
     match run_pool::<BitTable, _, _>(rt, alloc, problem, 1, &NoGate) {
         Ok(book) => is_small_finished(&book),
-        Err(
-            Refused {
-                fault: PoolFault::OutOfMemory,
-                given: Some(book),
-            },
-        ) => finishes_on(rt, alloc, book),
-        Err(
-            Refused {
-                fault: PoolFault::OutOfMemory,
-                given: None,
-            },
-        ) => finishes(rt, alloc, problem),
-        Err(_) => false,
+        Err(refused) => finishes_given(rt, alloc, problem, refused),
     }
 }
 
-/// The same of the small problem.
-fn finishes_small_again<R: Threads + Wait + Sync>(rt: &R, alloc: Global) -> Result<bool, Fail> {
-    let problem = read_cover(alloc, SMALL.as_bytes())?;
-    grows(alloc)?;
-    Ok(finishes_again(rt, alloc, &problem))
+/// How a test of such a pool ends, behind one growth.
+fn pool_end<R: Threads + Wait + Sync>(rt: &R, alloc: Global, problem: &Problem) -> End {
+    if grows(alloc) {
+        End::of(finishes_again(rt, alloc, problem))
+    } else {
+        End::Unready
+    }
+}
+
+/// How a test of a desk or a pool of the small problem ends.
+fn small_end<R: Threads + Wait + Sync>(rt: &R, alloc: Global, is_pool: bool) -> End {
+    let Ok(problem) = read_cover(alloc, SMALL.as_bytes()) else {
+        return End::Unset;
+    };
+    if is_pool {
+        pool_end(rt, alloc, &problem)
+    } else {
+        desk_end(alloc, &problem)
+    }
+}
+
+#[test]
+fn a_refused_desk_gives_its_book_back(rt: HostRuntime) -> Result<(), Fail> {
+    assert!(rt; small_end(&rt, rt.alloc(), false).is_right()?);
+    Ok(())
 }
 
 #[test]
 fn a_refused_pool_gives_its_book_back(rt: HostRuntime) -> Result<(), Fail> {
-    assert!(rt; finishes_small_again(&rt, rt.alloc())?);
+    assert!(rt; small_end(&rt, rt.alloc(), true).is_right()?);
     Ok(())
 }

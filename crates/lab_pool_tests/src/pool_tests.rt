@@ -11,16 +11,16 @@ use std::alloc::Global;
 use std::sync::Wait;
 use std::thread::Threads;
 
-/// Why so many workers are refused.
-fn refusal_of<R: Threads + Wait + Sync>(
+/// Whether so many workers of a problem are refused for their number.
+fn are_refused<R: Threads + Wait + Sync>(
     rt: &R,
     alloc: Global,
     problem: &Problem,
     workers: u32,
-) -> Option<PoolFault> {
+) -> bool {
     match run_pool::<LinkTable, _, _>(rt, alloc, problem, workers, &NoGate) {
-        Ok(_) => None,
-        Err(refused) => Some(refused.fault),
+        Ok(_) => false,
+        Err(refused) => refused.fault == PoolFault::BadWorkerCount,
     }
 }
 
@@ -45,32 +45,43 @@ fn find_the_cover<R: Threads + Wait + Sync>(
     }
 }
 
-/// The same of the small problem.
-fn finish_the_small<R: Threads + Wait + Sync>(rt: &R, alloc: Global, workers: u32) -> bool {
+/// Whether so many workers finish the small problem, or are refused.
+fn end_so<R: Threads + Wait + Sync>(rt: &R, alloc: Global, workers: u32, are_few: bool) -> bool {
     let Ok(problem) = read_cover(alloc, SMALL.as_bytes()) else {
         return false;
     };
-    find_the_cover(rt, alloc, &problem, workers)
+    if are_few {
+        find_the_cover(rt, alloc, &problem, workers)
+    } else {
+        are_refused(rt, alloc, &problem, workers)
+    }
 }
+
+/// The same of each of these numbers.
+fn all_end_so<R: Threads + Wait + Sync>(
+    rt: &R,
+    alloc: Global,
+    numbers: &[u32],
+    are_few: bool,
+) -> bool {
+    for workers in numbers {
+        if !end_so(rt, alloc, *workers, are_few) {
+            return false;
+        }
+    }
+    true
+}
+
+static FEW: [u32; 4] = [1, 2, 8, 32];
 
 #[test]
 fn any_number_of_workers_finishes_the_small_problem(rt: HostRuntime) {
-    for workers in [1, 2, 8, 32] {
-        assert!(rt; finish_the_small(&rt, rt.alloc(), workers));
-    }
+    assert!(rt; all_end_so(&rt, rt.alloc(), &FEW, true));
 }
 
-/// Whether so many workers of the small problem are refused for their number.
-fn are_refused<R: Threads + Wait + Sync>(rt: &R, alloc: Global, workers: u32) -> bool {
-    let Ok(problem) = read_cover(alloc, SMALL.as_bytes()) else {
-        return false;
-    };
-    refusal_of(rt, alloc, &problem, workers) == Some(PoolFault::BadWorkerCount)
-}
+static OTHERS: [u32; 2] = [0, 33];
 
 #[test]
 fn other_numbers_of_workers_are_refused(rt: HostRuntime) {
-    for workers in [0, 33] {
-        assert!(rt; are_refused(&rt, rt.alloc(), workers));
-    }
+    assert!(rt; all_end_so(&rt, rt.alloc(), &OTHERS, false));
 }

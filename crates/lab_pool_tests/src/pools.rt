@@ -1,11 +1,13 @@
-//! A pool over a problem, as all tests of workers run it.
+//! A pool over a problem or a book, as all tests of workers run it.
 
+use cover_bits::BitTable;
 use cover_problem::{Problem, Table};
 use lab_book::Book;
-use lab_pool::{Gate, run_pool};
+use lab_pool::{Gate, NoGate, PoolFault, run_pool, run_pool_on};
 use std::alloc::Global;
 use std::sync::Wait;
 use std::thread::Threads;
+use x_steps::Refused;
 
 /// The book that so many workers finish under a gate, with tables of this kind; None where they are refused.
 pub fn finished_under<'p, T: Table + Send + Sync, R: Threads + Wait + Sync, G: Gate>(
@@ -16,4 +18,29 @@ pub fn finished_under<'p, T: Table + Send + Sync, R: Threads + Wait + Sync, G: G
     gate: &G,
 ) -> Option<Book<'p>> {
     run_pool::<T, R, G>(rt, alloc, problem, workers, gate).ok()
+}
+
+/// The number of a refusal, and the book that comes back with it.
+fn given_back(refused: Refused<PoolFault, Option<Book<'_>>>) -> Option<(u8, Book<'_>)> {
+    let Refused { fault, given } = refused;
+    match given {
+        Some(book) => Some((fault.number(), book)),
+        None => None,
+    }
+}
+
+/// The book that so many workers leave, and 0 where it is finished, or else the number of the refusal.
+pub fn run_on<'p, R: Threads + Wait + Sync>(
+    rt: &R,
+    alloc: Global,
+    book: Book<'p>,
+    workers: u32,
+) -> Option<(u8, Book<'p>)> {
+    if book.leased() > 0 {
+        return None;
+    }
+    match run_pool_on::<BitTable, _, _>(rt, alloc, book, workers, &NoGate) {
+        Ok(book) => Some((0, book)),
+        Err(refused) => given_back(refused),
+    }
 }

@@ -122,15 +122,13 @@ impl<'p> Search<'p> {
         self.end_at(copy, id)
     }
 
-    /// Closes the tile in a book; if that is refused, the lease is let go.
-    pub fn close_in(self, book: &mut Book<'p>) -> bool {
+    /// Closes the tile in a book, or else parks it; if that is refused, the lease is let go.
+    pub fn end_in(self, book: &mut Book<'p>, closes: bool) -> bool {
         let Search { lease, runner: _ } = self;
-        is_ended(book.close(lease))
-    }
-
-    /// Parks the tile in a book; if that is refused, the lease is let go.
-    pub fn park_in(self, book: &mut Book<'p>) -> bool {
-        let Search { lease, runner: _ } = self;
-        is_ended(book.park(lease))
+        if closes {
+            is_ended(book.close(lease))
+        } else {
+            is_ended(book.park(lease))
+        }
     }
 }

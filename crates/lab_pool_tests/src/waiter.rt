@@ -110,8 +110,25 @@ fn waits<L: Desking, R: Wait>(
     }
 }
 
-/// Whether the second seat, which waits while the first ends the only tile so, is given a tile; None where a call isn't answered as it
-/// should be.
+/// Whether the second seat is given a tile, which it asks for while the first one ends the only one so; None where a call isn't
+/// answered as it should be.
+fn given_beside<L: Desking + Send + Sync, R: Threads + Wait + Sync>(
+    rt: &R,
+    desk: &Desk<'_, L>,
+    first: &mut Seat<L>,
+    second: &mut Seat<L>,
+    end: End,
+    progress: &Progress,
+) -> Option<bool> {
+    let (given, ended) = thread::join(
+        rt,
+        || waits(rt, desk, second, progress),
+        || leases_and_ends(rt, desk, first, end, progress),
+    );
+    if ended { given } else { None }
+}
+
+/// The same of two seats that begin.
 pub fn given_while_ended<L: Desking + Send + Sync, R: Threads + Wait + Sync>(
     rt: &R,
     desk: &Desk<'_, L>,
@@ -123,10 +140,5 @@ pub fn given_while_ended<L: Desking + Send + Sync, R: Threads + Wait + Sync>(
         is_leased: AtomicBool::new(false),
         is_asked_for: AtomicBool::new(false),
     };
-    let (given, ended) = thread::join(
-        rt,
-        || waits(rt, desk, second, &progress),
-        || leases_and_ends(rt, desk, first, end, &progress),
-    );
-    if ended { given } else { None }
+    given_beside(rt, desk, first, second, end, &progress)
 }

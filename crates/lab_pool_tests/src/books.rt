@@ -22,6 +22,11 @@ pub fn is_done(book: &Book<'_>, steps: u128) -> bool {
     book.finished() && book.steps() == steps && is_covered(book)
 }
 
+/// Whether a book has so many visits and steps.
+pub fn has_counts(book: &Book<'_>, visits: u128, steps: u128) -> bool {
+    book.visited() == visits && book.steps() == steps
+}
+
 /// Whether an entry is the one of a history at a place.
 fn is_at(entry: &Entry, entries: &Entries<'_>, place: usize) -> bool
     requires { place < length entries.now }

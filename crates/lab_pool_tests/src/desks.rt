@@ -226,12 +226,17 @@ fn finished_with<'p, L: Desking>(
     desk.finish(seats).ok()
 }
 
+/// Whether a seat is there, and has this number.
+pub fn has_number<L: Desking>(seat: Option<&Seat<L>>, number: u8) -> bool {
+    match seat {
+        Some(seat) => seat.number() == number,
+        None => false,
+    }
+}
+
 /// Whether these are a desk of two seats, and the first of them alone.
 fn is_one_short<L: Desking>(desk: &Desk<'_, L>, seats: &[Seat<L>]) -> bool {
-    match seats {
-        [first] => desk.seats() == 2 && first.number() == 0,
-        _ => false,
-    }
+    desk.seats() == 2 && seats.len() == 1 && has_number(seats.first(), 0)
 }
 
 /// The book of a desk that was refused for its missing seat with the number 10, once that is there.

@@ -1,5 +1,6 @@
 //! A gate that holds a worker until the other one stole a ticket.
 
+use crate::books::has_counts;
 use crate::pools::finished_under;
 use cover_bits::BitTable;
 use cover_problem::{Problem, read_cover};
@@ -126,10 +127,10 @@ fn add_dominoes(text: &mut String) -> bool {
     true
 }
 
-/// Whether a book has these visits and steps.
-fn has_counts(book: &Option<Book<'_>>, visits: u128, steps: u128) -> bool {
+/// Whether a book has the dominoes' visits and steps.
+fn is_of_dominoes(book: &Option<Book<'_>>) -> bool {
     match book {
-        Some(book) => book.visited() == visits && book.steps() == steps,
+        Some(book) => has_counts(book, 960, 14_487),
         None => false,
     }
 }
@@ -138,7 +139,7 @@ fn has_counts(book: &Option<Book<'_>>, visits: u128, steps: u128) -> bool {
 fn is_stolen<R: Threads + Wait + Sync>(rt: &R, alloc: Global, problem: &Problem) -> bool {
     let gate = UntilStolen::new();
     let book = finished_under::<BitTable, R, _>(rt, alloc, problem, 2, &gate);
-    gate.is_right() && has_counts(&book, 960, 14_487)
+    gate.is_right() && is_of_dominoes(&book)
 }
 
 /// The same of the dominoes' text.

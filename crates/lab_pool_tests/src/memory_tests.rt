@@ -3,7 +3,8 @@
 //! `dev/check_memory` runs these tests with one growth refused, each growth in turn.
 ghost use Rattle.std.specs.Prelude.{◌≡◌};
 
-use crate::books::{Start, begins_with, book_of};
+use crate::books::{Start, begins_with, book_of, has_counts};
+use crate::desks::has_number;
 use crate::pools::{finished_under, run_on};
 use cover_bits::BitTable;
 use cover_problem::{Problem, read_cover};
@@ -60,10 +61,10 @@ fn is_as_before(book: &Book<'_>, copy: &Book<'_>) -> bool {
 
 /// Whether a desk has two seats, 0 and 1.
 fn has_two<L: Desking>(desk: &Desk<'_, L>, seats: &[Seat<L>]) -> bool {
-    match seats {
-        [first, second] => desk.seats() == 2 && first.number() == 0 && second.number() == 1,
-        _ => false,
-    }
+    desk.seats() == 2
+        && seats.len() == 2
+        && has_number(seats.first(), 0)
+        && has_number(seats.last(), 1)
 }
 
 /// Whether a desk is made.
@@ -128,7 +129,7 @@ fn desk_end(alloc: Global, problem: &Problem) -> End {
 
 /// Whether a book is finished, with the small problem's cover and its steps. It takes no memory to tell.
 fn is_small_finished(book: &Book<'_>) -> bool {
-    book.finished() && book.visited() == 1 && book.steps() == 43
+    book.finished() && has_counts(book, 1, 43)
 }
 
 /// Whether one worker finishes a book of the small problem.

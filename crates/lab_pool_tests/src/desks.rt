@@ -220,9 +220,8 @@ fn finished_with<'p, L: Desking>(
     last: Seat<L>,
 ) -> Option<Book<'p>> {
     let mut seats = seats;
-    if seats.push(last).is_err() {
-        return None;
-    }
+    // Without memory for it the last one is missing, and they don't finish it.
+    let _pushed = seats.push(last);
     desk.finish(seats).ok()
 }
 
@@ -239,6 +238,11 @@ fn is_one_short<L: Desking>(desk: &Desk<'_, L>, seats: &[Seat<L>]) -> bool {
     desk.seats() == 2 && seats.len() == 1 && has_number(seats.first(), 0)
 }
 
+/// A book that is there, if all was right before.
+fn if_right(book: Option<Book<'_>>, is_right: bool) -> Option<Book<'_>> {
+    if is_right { book } else { None }
+}
+
 /// The book of a desk that was refused for its missing seat with the number 10, once that is there.
 fn finished_late<'p, L: Desking>(
     refused: Refused<BookFault, (Desk<'p, L>, Vec<Seat<L>>)>,
@@ -246,22 +250,28 @@ fn finished_late<'p, L: Desking>(
 ) -> Option<Book<'p>> {
     let Refused { fault, given } = refused;
     let (desk, seats) = given;
-    if fault.number() == Some(10) && is_one_short(&desk, &seats) {
-        finished_with(desk, seats, last)
-    } else {
-        None
+    let is_right = fault.number() == Some(10) && is_one_short(&desk, &seats);
+    if_right(finished_with(desk, seats, last), is_right)
+}
+
+/// The book of a desk, once it was refused without its last seat.
+fn finished_after<'p, L: Desking>(
+    desk: Desk<'p, L>,
+    seats: Vec<Seat<L>>,
+    last: Seat<L>,
+) -> Option<Book<'p>> {
+    match desk.finish(seats).err() {
+        Some(refused) => finished_late(refused, last),
+        None => None,
     }
 }
 
 /// The book of a desk, once the first seat is handed in alone, and then both are.
 fn finished_twice<'p, L: Desking>(desk: Desk<'p, L>, seats: Vec<Seat<L>>) -> Option<Book<'p>> {
     let mut seats = seats;
-    let Some(last) = seats.pop() else {
-        return None;
-    };
-    match desk.finish(seats) {
-        Ok(_) => None,
-        Err(refused) => finished_late(refused, last),
+    match seats.pop() {
+        Some(last) => finished_after(desk, seats, last),
+        None => None,
     }
 }
 

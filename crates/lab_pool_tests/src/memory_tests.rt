@@ -92,7 +92,8 @@ fn is_made_again<'p, L: Desking>(
     match Desk::<L>::new(alloc, blank, book, 2) {
         Ok((desk, seats)) => has_two(&desk, &seats),
         Err((blank, book)) => {
-            is_as_before(&book, copy) && is_made(Desk::<L>::new(alloc, blank, book, 2))
+            let is_back = is_as_before(&book, copy);
+            is_made(Desk::<L>::new(alloc, blank, book, 2)) && is_back
         }
     }
 }
@@ -132,20 +133,30 @@ fn is_small_finished(book: &Book<'_>) -> bool {
     book.finished() && has_counts(book, 1, 43)
 }
 
+/// Whether one worker left a book of the small problem that is finished.
+fn is_left_finished(left: Option<(u8, Book<'_>)>) -> bool {
+    match left {
+        Some((end, book)) => end == 0 && is_small_finished(&book),
+        None => false,
+    }
+}
+
 /// Whether one worker finishes a book of the small problem.
 fn finishes_on<R: Threads + Wait + Sync>(rt: &R, alloc: Global, book: Book<'_>) -> bool {
-    match run_on(rt, alloc, book, 1) {
-        Some((end, book)) => end == 0 && is_small_finished(&book),
+    is_left_finished(run_on(rt, alloc, book, 1))
+}
+
+/// Whether a book is there, and is the small problem's, finished.
+fn is_there_finished(book: Option<Book<'_>>) -> bool {
+    match book {
+        Some(book) => is_small_finished(&book),
         None => false,
     }
 }
 
 /// Whether one worker finishes that problem's run.
 fn finishes<R: Threads + Wait + Sync>(rt: &R, alloc: Global, problem: &Problem) -> bool {
-    match finished_under::<BitTable, R, _>(rt, alloc, problem, 1, &NoGate) {
-        Some(book) => is_small_finished(&book),
-        None => false,
-    }
+    is_there_finished(finished_under::<BitTable, R, _>(rt, alloc, problem, 1, &NoGate))
 }
 
 /// Whether it does after a refusal, with the book that came back, or with none where there was no memory for one.

@@ -10,6 +10,15 @@ use lab_pool::{NoGate, PoolFault, run_pool};
 use std::alloc::Global;
 use std::sync::Wait;
 use std::thread::Threads;
+use x_steps::Refused;
+
+/// Whether a pool is refused for its number of workers.
+fn is_bad_count<'p>(answer: Result<Book<'p>, Refused<PoolFault, Option<Book<'p>>>>) -> bool {
+    match answer {
+        Ok(_) => false,
+        Err(refused) => refused.fault == PoolFault::BadWorkerCount,
+    }
+}
 
 /// Whether so many workers of a problem are refused for their number.
 fn are_refused<R: Threads + Wait + Sync>(
@@ -18,10 +27,7 @@ fn are_refused<R: Threads + Wait + Sync>(
     problem: &Problem,
     workers: u32,
 ) -> bool {
-    match run_pool::<LinkTable, _, _>(rt, alloc, problem, workers, &NoGate) {
-        Ok(_) => false,
-        Err(refused) => refused.fault == PoolFault::BadWorkerCount,
-    }
+    is_bad_count(run_pool::<LinkTable, _, _>(rt, alloc, problem, workers, &NoGate))
 }
 
 /// Whether a book has the levels of the small problem.
@@ -32,17 +38,22 @@ fn has_small_levels(book: &Book<'_>) -> bool {
     }
 }
 
-/// Whether so many workers find the one cover of a problem, which is the small one's, its steps and its levels.
+/// Whether a book is there, and has the one cover of the small problem, its steps and its levels.
+fn is_small(book: Option<Book<'_>>) -> bool {
+    match book {
+        Some(book) => is_done(&book, 43) && has_small_levels(&book),
+        None => false,
+    }
+}
+
+/// Whether so many workers find all that in a problem, which is the small one.
 fn find_the_cover<R: Threads + Wait + Sync>(
     rt: &R,
     alloc: Global,
     problem: &Problem,
     workers: u32,
 ) -> bool {
-    match finished_under::<LinkTable, R, _>(rt, alloc, problem, workers, &NoGate) {
-        Some(book) => is_done(&book, 43) && has_small_levels(&book),
-        None => false,
-    }
+    is_small(finished_under::<LinkTable, R, _>(rt, alloc, problem, workers, &NoGate))
 }
 
 /// Whether so many workers finish the small problem, or are refused.

@@ -20,16 +20,20 @@ pub fn finished_under<'p, T: Table + Send + Sync, R: Threads + Wait + Sync, G: G
     run_pool::<T, R, G>(rt, alloc, problem, workers, gate).ok()
 }
 
-/// The number of a refusal, and the book that comes back with it.
-fn given_back(refused: Refused<PoolFault, Option<Book<'_>>>) -> Option<(u8, Book<'_>)> {
-    let Refused { fault, given } = refused;
-    match given {
-        Some(book) => Some((fault.number(), book)),
-        None => None,
+/// The book that a pool leaves, and 0 where it is finished, or else the number of the refusal.
+fn left_by<'p>(
+    answer: Result<Book<'p>, Refused<PoolFault, Option<Book<'p>>>>,
+) -> Option<(u8, Book<'p>)> {
+    match answer {
+        Ok(book) => Some((0, book)),
+        Err(Refused { fault, given }) => match given {
+            Some(book) => Some((fault.number(), book)),
+            None => None,
+        },
     }
 }
 
-/// The book that so many workers leave, and 0 where it is finished, or else the number of the refusal.
+/// The same of so many workers.
 pub fn run_on<'p, R: Threads + Wait + Sync>(
     rt: &R,
     alloc: Global,
@@ -39,8 +43,5 @@ pub fn run_on<'p, R: Threads + Wait + Sync>(
     if book.leased() > 0 {
         return None;
     }
-    match run_pool_on::<BitTable, _, _>(rt, alloc, book, workers, &NoGate) {
-        Ok(book) => Some((0, book)),
-        Err(refused) => given_back(refused),
-    }
+    left_by(run_pool_on::<BitTable, _, _>(rt, alloc, book, workers, &NoGate))
 }

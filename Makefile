@@ -118,7 +118,7 @@ check-names:
 check-lemmas:
 	@dev/check_lemmas
 
-# Each wrong body can be made, and those of wrong-bodies were refused over today's texts.
+# Each wrong body can be made, and those of wrong-bodies were refused over the texts as they are.
 # And the sentences of a check are read as they are meant.
 check-edits:
 	@dev/check_verdicts

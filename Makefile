@@ -38,9 +38,8 @@ CHECKS_OF_TEXTS = check-names check-lemmas check-edits check-waiting check-sente
 all: $(CHECKS_OF_TEXTS) check-frame check-install check-dist build gallery check-tools check-texts check-refused check-parts check-docs check-words \
 	check-completions check-page check-statuses check-memory
 
-# The checks that a landing has to pass after the gate: some three minutes once the program is built. Without check-edits while records are
-# due of wrong bodies that are tried beside the gate (docs/GATE.md).
-quick: $(filter-out check-edits,$(CHECKS_OF_TEXTS)) check-install build gallery check-refused check-docs check-words check-statuses check-memory
+# The checks that a landing has to pass after the gate: some three minutes once the program is built.
+quick: $(CHECKS_OF_TEXTS) check-install build gallery check-refused check-docs check-words check-statuses check-memory
 
 # This list.
 # (A line `##` is a heading; of the comment above a target the first line is shown.)

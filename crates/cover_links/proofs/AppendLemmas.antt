@@ -1,21 +1,21 @@
 -- A node that is appended to its list: the block stands for one node more.
-use Rattle.std.proofs.Common.{◌≡◌, ℕ, zero, suc, ◌+◌, ◌-◌, ◌<◌, ◌≤◌, ◌^◌, ◌⊎◌, inl, inr, Bool, true, unwrap_or, List, [], ◌∷◌, length, length-set, filter, set, refl, sym, ap, ◌∙◌, subst, arith}
+use Rattle.std.proofs.Common.{◌≡◌, ℕ, zero, suc, ◌+◌, ◌*◌, ◌<◌, ◌≤◌, ◌^◌, ◌⊎◌, inl, inr, Bool, true, unwrap_or, List, [], ◌∷◌, length, length-set, filter, set, refl, sym, ap, ◌∙◌, subst, arith}
 use Rattle.std.proofs.lemmas.Bool.{cases_eq, cases_lt}
 use Rattle.cover_problem.specs.Lists.{numbers, last_of}
 use Rattle.cover_problem.specs.Problem.{ProblemValue, IsProblem, size_of}
 use Rattle.cover_links.specs.declared.entry.Entry.{Entry}
-use Rattle.cover_links.specs.Entries.{entry_at, changed, one_more, to_up, to_down, relinked}
+use Rattle.cover_links.specs.Entries.{entry_at, low_half, high_half, next_bytes, changed, one_more, to_up, to_down, relinked}
 use Rattle.cover_links.specs.Hiding.{node_unhidden}
 use Rattle.cover_links.specs.Fresh.{node_written, node_appended}
 use Rattle.cover_links.specs.Safety.{CanAppendNode, IsInside}
 use Rattle.cover_links.specs.Ring.{Follows, IsNext, IsRing, but_for}
-use Rattle.cover_links.specs.Layout.{node_index, spacer_of, start_of}
-use Rattle.cover_links.proofs.EntryLemmas.{length-changed, kept, at_changed, at_other}
+use Rattle.cover_links.specs.Layout.{node_index}
+use Rattle.cover_links.proofs.EntryLemmas.{halves_join, length-changed, kept, at_changed, at_other}
 use Rattle.cover_links.proofs.RestoreLemmas.{vertical, length-joined, joined_next, joined_next_other, joined_prev, joined_prev_other, joined_kept}
 use Rattle.cover_links.proofs.RingLemmas.{without_ne, without_from, last_to_head, count_without}
-use Rattle.cover_links.proofs.LayoutLemmas.{IsNode, place_high, place_low, place_apart}
-use Rattle.cover_links.proofs.BuildLemmas.{size_small, place_between}
-use Rattle.cover_links.proofs.HidingLemmas.{down_at, up_at, left_at, right_at, top_at, few}
+use Rattle.cover_links.proofs.LayoutLemmas.{IsNode, next_place, place_high, place_low, place_apart}
+use Rattle.cover_links.proofs.BuildLemmas.{size_small, next_low}
+use Rattle.cover_links.proofs.HidingLemmas.{down_at, up_at, left_at, right_at, top_at, bytes_at, few}
 use Rattle.std.specs.Cmp.{both_ways as same_test}
 
 -- a block with the nodes that are shown, while it is built
@@ -25,8 +25,7 @@ pub record Grows (p : ProblemValue) (shown : ℕ → ℕ → Bool) (active : ℕ
   pub rings : (j : ℕ) → 0 < j → j ≤ length p.names → IsRing (shown j) (node_index p j) (down_at es) (up_at es)
   pub counts : (j : ℕ) → 0 < j → j ≤ length p.names → top_at es j ≡ length (filter (shown j) (numbers (length p.options) 1))
   pub tops : (j k : ℕ) → shown j k ≡ true → top_at es (node_index p j k) ≡ j
-  pub starts : (j k : ℕ) → shown j k ≡ true → start_of p (k - 1) + left_at es (node_index p j k) ≡ node_index p j k
-  pub ends : (j k : ℕ) → shown j k ≡ true → node_index p j k + right_at es (node_index p j k) ≡ spacer_of p k
+  pub nexts : (j k : ℕ) → shown j k ≡ true → bytes_at es (node_index p j k) ≡ next_place p j k * 16
   pub row : IsRing active (λ i. i) (right_at es) (left_at es)
   pub aside : (i : ℕ) → p.primary < i → i ≤ length p.names → (right_at es i ≡ i) × (left_at es i ≡ i)
   pub actives : (i : ℕ) → active i ≡ true → (0 < i) × (i ≤ p.primary)
@@ -71,14 +70,8 @@ module _ (p : ProblemValue) (active : ℕ → Bool) (problem : IsProblem p) (t t
   abbrev x : ℕ
   x = node_index p j k
 
-  abbrev l : ℕ
-  l = start_of p (k - 1)
-
-  abbrev r : ℕ
-  r = spacer_of p k
-
-  between : (l ≤ x) × (x < r) × (r < l + 2 ^ 16)
-  between = place_between p j k problem node
+  abbrev next : ℕ
+  next = next_place p j k
 
   within : (z : ℕ) → t j z ≡ true → (0 < z) × (z ≤ length p.options)
   within z h = let n = g.shown_are j z h in (n.some, n.within)
@@ -122,16 +115,16 @@ module _ (p : ProblemValue) (active : ℕ → Bool) (problem : IsProblem p) (t t
 
   -- the block with the new node written
   abbrev fs : List Entry
-  fs = node_written es x j l r
+  fs = node_written es x j next
 
   fs_length : length fs ≡ length es
-  fs_length = length-set es x (record { top = j; up = (entry_at es j).up; down = j; left = x - l; right = r - x })
+  fs_length = length-set es x (record { top = j; up = (entry_at es j).up; down = j; left = low_half next; right = high_half next })
 
-  fs_here : entry_at fs x ≡ record { top = j; up = (entry_at es j).up; down = j; left = x - l; right = r - x }
-  fs_here = at_set es x (record { top = j; up = (entry_at es j).up; down = j; left = x - l; right = r - x }) x_low
+  fs_here : entry_at fs x ≡ record { top = j; up = (entry_at es j).up; down = j; left = low_half next; right = high_half next }
+  fs_here = at_set es x (record { top = j; up = (entry_at es j).up; down = j; left = low_half next; right = high_half next }) x_low
 
   fs_other : (y : ℕ) → (y ≡ x → ⊥) → entry_at fs y ≡ entry_at es y
-  fs_other y ne = set_other es x y (record { top = j; up = (entry_at es j).up; down = j; left = x - l; right = r - x }) ne
+  fs_other y ne = set_other es x y (record { top = j; up = (entry_at es j).up; down = j; left = low_half next; right = high_half next }) ne
 
   j_apart : j ≡ x → ⊥
   j_apart h = let w = x_high in absurd (omega arith)
@@ -158,7 +151,7 @@ module _ (p : ProblemValue) (active : ℕ → Bool) (problem : IsProblem p) (t t
   unhidden_is =
       ap (λ (e : Entry). relinked (changed one_more fs e.top) x) fs_here ∙ (λ v. changed (to_up x) (changed (to_down x) hs (hs_up v)) (hs_down v))
 
-  appended_is : node_appended es x j l r ≡ ks
+  appended_is : node_appended es x j next ≡ ks
   unfolding node_appended
   appended_is = unhidden_is
 
@@ -179,6 +172,9 @@ module _ (p : ProblemValue) (active : ℕ → Bool) (problem : IsProblem p) (t t
 
   ks_right : (y : ℕ) → right_at ks y ≡ right_at fs y
   ks_right y = joined_kept vertical hs (up_at es j) x j x (λ e. e.right) (λ n e. refl) (λ n e. refl) y ∙ kept (λ e. e.right) one_more (λ e. refl) fs j y
+
+  ks_bytes : (y : ℕ) → bytes_at ks y ≡ bytes_at fs y
+  ks_bytes y = λ v. ks_left y v + ks_right y v * 65536
 
   ks_top : (y : ℕ) → (y ≡ j → ⊥) → top_at ks y ≡ top_at fs y
   ks_top y ne = joined_kept vertical hs (up_at es j) x j x (λ e. e.top) (λ n e. refl) (λ n e. refl) y ∙ ap (λ (e : Entry). e.top) (at_other one_more fs j y ne)
@@ -302,12 +298,9 @@ module _ (p : ProblemValue) (active : ℕ → Bool) (problem : IsProblem p) (t t
     rings = λ i b d. ring_of i b d (cases_eq i j);
     counts = λ i b d. count_of i b d (cases_eq i j);
     tops = each (λ i m. top_at ks (node_index p i m) ≡ i) (ks_top x (λ e. j_apart (sym e)) ∙ ap (λ (e : Entry). e.top) fs_here) (λ i m s. old_plain (λ e. e.top) ks_top i m s ∙ g.tops i m s);
-    starts = each (λ i m. start_of p (m - 1) + left_at ks (node_index p i m) ≡ node_index p i m)
-        (let d = ks_left x ∙ ap (λ (e : Entry). e.left) fs_here in let b = between.0 in omega arith)
-        (λ i m s. ap (λ d. start_of p (m - 1) + d) (old_plain (λ e. e.left) (λ y ne. ks_left y) i m s) ∙ g.starts i m s);
-    ends = each (λ i m. node_index p i m + right_at ks (node_index p i m) ≡ spacer_of p m)
-        (let d = ks_right x ∙ ap (λ (e : Entry). e.right) fs_here in let b = between.1 in omega arith)
-        (λ i m s. ap (λ d. node_index p i m + d) (old_plain (λ e. e.right) (λ y ne. ks_right y) i m s) ∙ g.ends i m s);
+    nexts = each (λ i m. bytes_at ks (node_index p i m) ≡ next_place p i m * 16)
+        (ks_bytes x ∙ ap next_bytes fs_here ∙ halves_join next)
+        (λ i m s. old_plain next_bytes (λ y ne. ks_bytes y) i m s ∙ g.nexts i m s);
     row = λ m y f. let q = g.row m y f in (row_right m (row_low f.from) ∙ q.0, row_left y (row_low (row_target m y f.to)) ∙ q.1);
     aside = λ i b d. let q = g.aside i b d in (row_right i d ∙ q.0, row_left i d ∙ q.1);
     actives = g.actives;
@@ -340,14 +333,17 @@ module _ (p : ProblemValue) (active : ℕ → Bool) (problem : IsProblem p) (t t
       row_target m y (inl n) = inr n.0
       row_target m y (inr n) = inl n.0
 
-  pub append_grows : Grows p t' active (node_appended es x j l r)
+  pub append_grows : Grows p t' active (node_appended es x j next)
   append_grows = subst (λ n. Grows p t' active n) (sym appended_is) ks_grows
 
   -- what stood elsewhere stays, but for the neighbours and the head
-  pub append_keeps : (y : ℕ) → length p.names < y → (y ≡ x → ⊥) → top_at (node_appended es x j l r) y ≡ top_at es y
+  pub append_keeps : (y : ℕ) → length p.names < y → (y ≡ x → ⊥) → top_at (node_appended es x j next) y ≡ top_at es y
   append_keeps y h ne = ap (λ n. top_at n y) appended_is ∙ ks_top y (λ e. absurd (omega arith)) ∙ ap (λ (e : Entry). e.top) (fs_other y ne)
 
-  pub append_can : CanAppendNode es x j l r
+  pub append_blank : (y : ℕ) → (y ≡ x → ⊥) → bytes_at (node_appended es x j next) y ≡ bytes_at es y
+  append_blank y ne = ap (λ n. bytes_at n y) appended_is ∙ ks_bytes y ∙ ap next_bytes (fs_other y ne)
+
+  pub append_can : CanAppendNode es x j next
   append_can =
       let top : (entry_at fs x).top ≡ j = ap (λ (e : Entry). e.top) fs_here in
       let here : x < length fs = subst (λ n. x < n) (sym fs_length) x_low in
@@ -356,9 +352,7 @@ module _ (p : ProblemValue) (active : ℕ → Bool) (problem : IsProblem p) (t t
         word = (let z = g.size in let m = size_small p problem in omega arith);
         here = x_low;
         item = j_low;
-        from = between.0;
-        to = between.1;
-        short = between.2;
+        small = next_low p j k problem node;
         into = record {
           here = here;
           item = subst (λ n. n < length fs) (sym top) head;

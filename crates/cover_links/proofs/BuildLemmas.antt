@@ -1,14 +1,11 @@
 -- Lemmas on the places of the options, and on a list that grows.
-use Rattle.std.proofs.Common.{◌≡◌, ℕ, zero, suc, ◌+◌, ◌-◌, ◌<◌, ◌≤◌, ◌^◌, ◌⊎◌, inl, inr, true, nat_lt, nat_le, ◌&&◌, List, [], ◌∷◌, ◌++◌, length, get_or, sym, ap, ◌∙◌, subst, arith}
-use Rattle.std.proofs.lemmas.Bool.{and_parts, and_from, cases_lt, leb-true, lt-ltb, le-leb}
-use Rattle.cover_problem.specs.Lists.{has}
-use Rattle.cover_problem.specs.Problem.{ProblemValue, IsProblem, is_item, option_at, size_of}
-use Rattle.cover_problem.proofs.MemberLemmas.{all_from}
-use Rattle.cover_problem.proofs.ActiveLemmas.{option_is}
+use Rattle.std.proofs.Common.{◌≡◌, ℕ, zero, suc, ◌+◌, ◌-◌, ◌<◌, ◌≤◌, ◌^◌, ◌⊎◌, inl, inr, ◌==◌, true, false, nat_le, ◌&&◌, List, [], ◌∷◌, ◌++◌, length, get_or, sym, ap, ◌∙◌, subst, arith}
+use Rattle.std.proofs.lemmas.Bool.{and_parts, cases_eq, cases_lt, eq-eqb, ne_eqb, leb-true}
+use Rattle.cover_problem.specs.Problem.{ProblemValue, IsProblem, option_at, size_of}
 use Rattle.cover_problem.proofs.CoveredLemmas.{covered_none}
 use Rattle.cover_problem.proofs.TableLemmas.{covered_short}
-use Rattle.cover_links.specs.Layout.{node_index, spacer_of, start_of}
-use Rattle.cover_links.proofs.LayoutLemmas.{IsNode, index_below, start_last, start_below}
+use Rattle.cover_links.specs.Layout.{node_index, spacer_of, start_of, place_after}
+use Rattle.cover_links.proofs.LayoutLemmas.{IsNode, next_place, index_below, spacer_low, start_last, start_below}
 
 pub size_small : (p : ProblemValue) → IsProblem p → size_of p ≤ 8388608
 size_small p s = leb-true (size_of p) 8388608 (and_parts (nat_le (length p.names) 65535 && nat_le (length p.options) 262143) (nat_le (size_of p) 8388608) s.small).1
@@ -16,24 +13,26 @@ size_small p s = leb-true (size_of p) 8388608 (and_parts (nat_le (length p.names
 pub few_items : (p : ProblemValue) → IsProblem p → length p.names ≤ 65535
 few_items p s = (covered_short p [] s (covered_none p)).1
 
--- the items of an option are distinct, so that it has no more than there are
-option_short : (p : ProblemValue) (k : ℕ) → IsProblem p → 0 < k → k ≤ length p.options → length (option_at p k) ≤ 65535
-option_short p k s some within =
-    let o = option_is p k s some within in
-    let each : (i : ℕ) → has (option_at p k) i ≡ true → is_item (length p.names) i ≡ true = λ i h.
-    let r = o.items i h in and_from (nat_lt 0 i) (nat_le i (length p.names)) (lt-ltb 0 i r.0) (le-leb i (length p.names) r.1) in
-    let r = covered_short p (option_at p k) s (record { distinct = o.distinct; items = all_from (is_item (length p.names)) (option_at p k) each }) in
-    omega (arith, r.0, r.1)
-
--- a node stands no more than 2 ^ 16 - 1 places from the first node of its option, and from the spacer past it
-pub place_between : (p : ProblemValue) (j k : ℕ) → IsProblem p → IsNode p j k
-    → (start_of p (k - 1) ≤ node_index p j k) × (node_index p j k < spacer_of p k) × (spacer_of p k < start_of p (k - 1) + 2 ^ 16)
-place_between p j zero s n = absurd (omega (arith, n.some))
-place_between p j (suc k) s n =
+-- a node stands among those of its option
+pub place_between : (p : ProblemValue) (j k : ℕ) → IsNode p j k → (start_of p (k - 1) ≤ node_index p j k) × (node_index p j k < spacer_of p k)
+place_between p j zero n = absurd (omega (arith, n.some))
+place_between p j (suc k) n =
     let e : k ≡ suc k - 1 = omega arith in
-    let b = index_below (option_at p (suc k)) j n.has_item in let l = option_short p (suc k) s n.some n.within in
-    subst (λ m. (start_of p m ≤ node_index p j (suc k)) × (node_index p j (suc k) < spacer_of p (suc k)) × (spacer_of p (suc k) < start_of p m + 2 ^ 16)) e
-    (omega arith, omega arith, omega arith)
+    let b = index_below (option_at p (suc k)) j n.has_item in
+    subst (λ m. (start_of p m ≤ node_index p j (suc k)) × (node_index p j (suc k) < spacer_of p (suc k))) e (omega arith, omega arith)
+
+-- the place after it is that of a node of the option too
+pub after_between : (start end x : ℕ) → start ≤ x → x < end → (start ≤ place_after start end x) × (place_after start end x < end)
+after_between start end x a b = pick (cases_eq (x + 1) end)
+  where
+    pick : (x + 1 ≡ end) ⊎ (x + 1 ≡ end → ⊥) → (start ≤ place_after start end x) × (place_after start end x < end)
+    pick (inl e) = let f : x + 1 == end ≡ true = eq-eqb (x + 1) end e in rw f (omega arith, omega arith)
+    pick (inr ne) = let f : x + 1 == end ≡ false = ne_eqb (x + 1) end ne in rw f (omega arith, omega (arith, ne))
+
+pub next_low : (p : ProblemValue) (j k : ℕ) → IsProblem p → IsNode p j k → next_place p j k < 2 ^ 28
+next_low p j k problem n =
+    let b = place_between p j k n in let a = (after_between (start_of p (k - 1)) (spacer_of p k) (node_index p j k) b.0 b.1).1 in
+    let s = (spacer_low p k n.some n.within).1 in let z = size_small p problem in omega arith
 
 pub start_most : (p : ProblemValue) (k : ℕ) → k ≤ length p.options → start_of p k ≤ size_of p
 start_most p k le = pick (cases_lt k (length p.options))

@@ -119,8 +119,7 @@ module _ (p : ProblemValue) (problem : IsProblem p) where
       rings = empty_ring;
       counts = λ j a b. ap (λ (w : Entry). w.top) (head j a b) ∙ sym (ap length (no_members j (length p.options) 1));
       tops = λ j k h. absurd (none j k h);
-      starts = λ j k h. absurd (none j k h);
-      ends = λ j k h. absurd (none j k h);
+      nexts = λ j k h. absurd (none j k h);
       row = full_row;
       aside = λ i a b.
           let f : nat_lt p.primary i ≡ true = lt-ltb p.primary i a in
@@ -160,9 +159,9 @@ module _ (p : ProblemValue) (problem : IsProblem p) where
         rings = g.rings;
         counts = g.counts;
         tops = λ j k n. g.tops j k (every_node j k n);
-        starts = λ j k n. g.starts j k (every_node j k n);
-        ends = λ j k n. g.ends j k (every_node j k n);
-        spacers = d.spacers;
+        nexts = λ j k n. g.nexts j k (every_node j k n);
+        spacers = λ k a b. (d.spacers k a b).0;
+        blanks = λ k a b. (d.spacers k a b).1;
         row = g.row;
         aside = g.aside;
         actives = g.actives;

@@ -1,5 +1,5 @@
 -- Covering an item: it stays in the block, gives a block that stands for one item more, and is undone by uncovering the item.
-use Rattle.std.proofs.Common.{◌≡◌, ℕ, ◌+◌, ◌-◌, ◌<◌, ◌≤◌, ◌⊎◌, inl, inr, Bool, true, false, unwrap_or, List, [], ◌∷◌, ◌++◌, length, filter, refl, sym, ap, ◌∙◌, subst, arith}
+use Rattle.std.proofs.Common.{◌≡◌, ℕ, ◌+◌, ◌*◌, ◌<◌, ◌≤◌, ◌⊎◌, inl, inr, Bool, true, false, unwrap_or, List, [], ◌∷◌, ◌++◌, length, filter, refl, sym, ap, ◌∙◌, subst, arith}
 use Rattle.std.specs.Cmp.{both_ways as same_test}
 use Rattle.std.proofs.lemmas.Bool.{cases_eq, cases_lt}
 use Rattle.cover_problem.specs.Lists.{has, numbers, above, below}
@@ -12,13 +12,13 @@ use Rattle.cover_links.specs.Entries.{item_unlinked, item_relinked, IsItemLinked
 use Rattle.cover_links.specs.Hiding.{list_hidden, list_unhidden, options_hidden, item_covered, item_uncovered}
 use Rattle.cover_links.specs.Safety.{CanHideList, CanUnhideList, IsItemInside, CanCoverItem, CanUncoverItem}
 use Rattle.cover_links.specs.Ring.{Follows, IsRing}
-use Rattle.cover_links.specs.Layout.{node_index, spacer_of, start_of}
+use Rattle.cover_links.specs.Layout.{node_index, spacer_of}
 use Rattle.cover_links.proofs.EntryLemmas.{length-item_unlinked}
 use Rattle.cover_links.proofs.RestoreLemmas.{item_unlinked_leaves, item_unlinked_kept, row_back}
 use Rattle.cover_links.proofs.RingLemmas.{Leaves, leaves_next, leaves_prev, ring_without, next_is, prev_is, next_member}
-use Rattle.cover_links.proofs.LayoutLemmas.{IsNode, place_high}
+use Rattle.cover_links.proofs.LayoutLemmas.{IsNode, place_high, spacer_low}
 use Rattle.cover_links.proofs.BuildLemmas.{few_items}
-use Rattle.cover_links.proofs.HidingLemmas.{Stands, down_at, up_at, left_at, right_at, top_at}
+use Rattle.cover_links.proofs.HidingLemmas.{Stands, down_at, up_at, left_at, right_at, top_at, bytes_at}
 use Rattle.cover_links.proofs.ListWalk.{first_of, last_from, IsChain, chain_from, chain_next, chain_last, list_gone, ListDone, list_done, list_column, list_stays, list_was}
 use Rattle.cover_links.proofs.Covered.{shown_of, active_of, active_is, active_when, rises_distinct, same_column, all_shown, still_shown, was_shown, active_aside, active_without}
 
@@ -101,6 +101,7 @@ module _ (p : ProblemValue) (c : List ℕ) (i : ℕ) (shown : ℕ → ℕ → Bo
       let r = row_done in let w = problem.within in
       let downs : (y : ℕ) → down_at (item_unlinked fs i) y ≡ down_at fs y = item_unlinked_kept fs i (λ e. e.down) (λ k e. refl) (λ k e. refl) in
       let ups : (y : ℕ) → up_at (item_unlinked fs i) y ≡ up_at fs y = item_unlinked_kept fs i (λ e. e.up) (λ k e. refl) (λ k e. refl) in
+      let far_bytes : (y : ℕ) → p.primary < y → bytes_at (item_unlinked fs i) y ≡ bytes_at fs y = λ y h v. (r.far y h).1 v + (r.far y h).0 v * 65536 in
       let tops : (y : ℕ) → top_at (item_unlinked fs i) y ≡ top_at fs y = item_unlinked_kept fs i (λ e. e.top) (λ k e. refl) (λ k e. refl) in
       record {
         size = length-item_unlinked fs i ∙ s.size;
@@ -108,9 +109,9 @@ module _ (p : ProblemValue) (c : List ℕ) (i : ℕ) (shown : ℕ → ℕ → Bo
         rings = λ j a b x y f. let q = s.rings j a b x y f in (downs (node_index p j x) ∙ q.0, ups (node_index p j y) ∙ q.1);
         counts = λ j a b. tops j ∙ s.counts j a b;
         tops = λ j k n. tops (node_index p j k) ∙ s.tops j k n;
-        starts = λ j k n. ap (λ d. start_of p (k - 1) + d) (r.far (node_index p j k) (let h = place_high p j k n in omega arith)).1 ∙ s.starts j k n;
-        ends = λ j k n. ap (λ d. node_index p j k + d) (r.far (node_index p j k) (let h = place_high p j k n in omega arith)).0 ∙ s.ends j k n;
+        nexts = λ j k n. far_bytes (node_index p j k) (let h = place_high p j k n in omega arith) ∙ s.nexts j k n;
         spacers = λ k a b. tops (spacer_of p k) ∙ s.spacers k a b;
+        blanks = λ k a b. far_bytes (spacer_of p k) (let h = (spacer_low p k a b).0 in omega arith) ∙ s.blanks k a b;
         row = r.ring;
         aside = λ x a b. (let f = r.far x a in let q = s.aside x a b in (f.0 ∙ q.0, f.1 ∙ q.1));
         actives = λ x h. (let a = active_is p (c ++ i ∷ []) x h in (a.0, a.1));
@@ -208,7 +209,7 @@ module _ (p : ProblemValue) (c : List ℕ) (i : ℕ) (es : List Entry) (problem 
   can = record {
     small = (let w = u.within in let f = few_items p problem in omega arith);
     here = here (shown_of p c) (active_of p c) es s;
-    options = subst (λ (w : ℕ × ℕ). CanHideList es w.0 w.1) (λ z. (sym down_is z, sym top_is z)) walk.can;
+    options = subst (λ (w : ℕ × ℕ). CanHideList es i w.0 w.1) (λ z. (sym down_is z, sym top_is z)) walk.can;
     row = subst (λ gs. IsItemInside gs i) (sym options_is) (record { here = here (shown_of p (c ++ i ∷ [])) (active_of p c) fs fs_stands; before = (row.linked).before; after = (row.linked).after });
   }
 
@@ -238,7 +239,7 @@ module _ (p : ProblemValue) (c : List ℕ) (i : ℕ) (es : List Entry) (problem 
       before = subst (λ n. n < length (item_unlinked fs i)) (sym (leaves_prev (item_unlinked_leaves fs i row.linked))) (subst (λ n. left_at fs i < n) (sym (length-item_unlinked fs i)) (row.linked).before);
       after = subst (λ n. n < length (item_unlinked fs i)) (sym (leaves_next (item_unlinked_leaves fs i row.linked))) (subst (λ n. right_at fs i < n) (sym (length-item_unlinked fs i)) (row.linked).after);
     };
-    options = subst (λ (w : List Entry × ℕ × ℕ). CanUnhideList w.0 w.1 w.2) (λ z. (sym again z, (sym up_is ∙ (λ l. up_at (sym again l) i)) z, (sym top_again ∙ (λ l. top_at (sym again l) i)) z)) (walk.back_can 0 tt);
+    options = subst (λ (w : List Entry × ℕ × ℕ). CanUnhideList w.0 i w.1 w.2) (λ z. (sym again z, (sym up_is ∙ (λ l. up_at (sym again l) i)) z, (sym top_again ∙ (λ l. top_at (sym again l) i)) z)) (walk.back_can 0 refl);
   }
 
   pub cover_done : CoverDone p c i es

@@ -1,8 +1,8 @@
 -- Lemmas on a change of one entry: what is at that entry, at the others, and in a field that it keeps.
-use Rattle.std.proofs.Common.{◌≡◌, ℕ, zero, suc, ◌+◌, ◌-◌, ◌<◌, List, [], ◌∷◌, length, set, refl, ap, ◌∙◌, arith, length-set}
+use Rattle.std.proofs.Common.{◌≡◌, ℕ, zero, suc, ◌+◌, ◌*◌, ◌/◌, ◌<◌, List, [], ◌∷◌, length, set, refl, ap, ◌∙◌, arith, length-set}
 use Rattle.cover_links.specs.declared.entry.Entry.{Entry}
-use Rattle.cover_links.specs.Entries.{entry_at, option_start, option_end, changed, unlinked, relinked, item_unlinked, item_relinked}
-use Rattle.cover_links.specs.Hiding.{node_hidden, node_unhidden, run_hidden, run_unhidden, after_hidden, hidden, before_unhidden, unhidden}
+use Rattle.cover_links.specs.Entries.{entry_at, low_half, high_half, next_bytes, changed, one_less, one_more, to_up, to_down, unlinked, relinked, item_unlinked, item_relinked}
+use Rattle.cover_links.specs.Hiding.{node_hidden, node_unhidden, nodes_hidden, nodes_unhidden, other_nodes, hidden, unhidden}
 
 pub length-changed : (f : Entry → Entry) (es : List Entry) (z : ℕ) → length (changed f es z) ≡ length es
 unfolding changed
@@ -57,27 +57,58 @@ pub length-node_unhidden : (es : List Entry) (q : ℕ) → length (node_unhidden
 unfolding node_unhidden
 length-node_unhidden es q = length-relinked _ q ∙ length-changed _ es _
 
-pub length-run_hidden : (es : List Entry) (a n : ℕ) → length (run_hidden es a n) ≡ length es
-length-run_hidden es a zero = refl
-length-run_hidden es a (suc n) = length-run_hidden (node_hidden es a) (suc a) n ∙ length-node_hidden es a
+pub length-nodes_hidden : (es : List Entry) (qs : List ℕ) → length (nodes_hidden es qs) ≡ length es
+length-nodes_hidden es [] = refl
+length-nodes_hidden es (q ∷ qs) = length-nodes_hidden (node_hidden es q) qs ∙ length-node_hidden es q
 
-pub length-run_unhidden : (es : List Entry) (a n : ℕ) → length (run_unhidden es a n) ≡ length es
-length-run_unhidden es a zero = refl
-length-run_unhidden es a (suc n) = length-node_unhidden (run_unhidden es (suc a) n) a ∙ length-run_unhidden es (suc a) n
+pub length-nodes_unhidden : (es : List Entry) (qs : List ℕ) → length (nodes_unhidden es qs) ≡ length es
+length-nodes_unhidden es [] = refl
+length-nodes_unhidden es (q ∷ qs) = length-nodes_unhidden (node_unhidden es q) qs ∙ length-node_unhidden es q
 
 pub length-hidden : (es : List Entry) (p : ℕ) → length (hidden es p) ≡ length es
-unfolding hidden after_hidden
-length-hidden es p = length-run_hidden (run_hidden es (suc p) (option_end es p - suc p)) (option_start es p) (p - option_start es p) ∙ length-run_hidden es (suc p) (option_end es p - suc p)
+unfolding hidden
+length-hidden es p = length-nodes_hidden es (other_nodes es p)
 
 pub length-unhidden : (es : List Entry) (p : ℕ) → length (unhidden es p) ≡ length es
-unfolding unhidden before_unhidden
-length-unhidden es p = length-run_unhidden (run_unhidden es (option_start es p) (p - option_start es p)) (suc p) (option_end es p - suc p) ∙ length-run_unhidden es (option_start es p) (p - option_start es p)
+unfolding unhidden
+length-unhidden es p = length-nodes_unhidden es (other_nodes es p)
 
--- one more turn of a run
-pub run_hidden_step : (es : List Entry) (a b : ℕ) → a < b → run_hidden es a (b - a) ≡ run_hidden (node_hidden es a) (a + 1) (b - (a + 1))
-run_hidden_step es a b lt =
-    let one : b - a ≡ suc (b - (a + 1)) = omega arith in let next : suc a ≡ a + 1 = omega arith in
-    ap (λ n. run_hidden es a n) one ∙ ap (λ k. run_hidden (node_hidden es a) k (b - (a + 1))) next
+-- as many bytes as a number of entries takes
+pub times_div : (n : ℕ) → n * 16 / 16 ≡ n
+times_div n = omega arith
+
+-- two halves make them again
+pub halves_join : (n : ℕ) → low_half n + high_half n * 65536 ≡ n * 16
+halves_join n = omega arith
+
+-- hiding a node, and putting it back, keep the links to the next nodes
+link_kept : (f : Entry → Entry) → ((e : Entry) → (f e).left ≡ e.left) → ((e : Entry) → (f e).right ≡ e.right) → (es : List Entry) (z x : ℕ)
+    → next_bytes (entry_at (changed f es z) x) ≡ next_bytes (entry_at es x)
+link_kept f l r es z x = λ i. kept (λ e. e.left) f l es z x i + kept (λ e. e.right) f r es z x i * 65536
+
+pub hidden_link : (es : List Entry) (q x : ℕ) → next_bytes (entry_at (node_hidden es q) x) ≡ next_bytes (entry_at es x)
+unfolding node_hidden unlinked
+hidden_link es q x =
+    link_kept one_less (λ e. refl) (λ e. refl) (unlinked es q) (entry_at es q).top x
+    ∙ link_kept (to_up (entry_at es q).up) (λ e. refl) (λ e. refl) (changed (to_down (entry_at es q).down) es (entry_at es q).up) (entry_at es q).down x
+    ∙ link_kept (to_down (entry_at es q).down) (λ e. refl) (λ e. refl) es (entry_at es q).up x
+
+pub unhidden_link : (es : List Entry) (q x : ℕ) → next_bytes (entry_at (node_unhidden es q) x) ≡ next_bytes (entry_at es x)
+unfolding node_unhidden relinked
+unhidden_link es q x =
+    let fs = changed one_more es (entry_at es q).top in
+    link_kept (to_up q) (λ e. refl) (λ e. refl) (changed (to_down q) fs (entry_at fs q).up) (entry_at fs q).down x
+    ∙ link_kept (to_down q) (λ e. refl) (λ e. refl) fs (entry_at fs q).up x
+    ∙ link_kept one_more (λ e. refl) (λ e. refl) es (entry_at es q).top x
+
+-- two changes of different entries, in either order
+pub changed_swap : (f g : Entry → Entry) (es : List Entry) (y z : ℕ) → (y ≡ z → ⊥) → changed f (changed g es y) z ≡ changed g (changed f es z) y
+unfolding changed
+changed_swap f g [] y z ne = refl
+changed_swap f g (e ∷ es) zero zero ne = absurd (ne refl)
+changed_swap f g (e ∷ es) zero (suc z) ne = refl
+changed_swap f g (e ∷ es) (suc y) zero ne = refl
+changed_swap f g (e ∷ es) (suc y) (suc z) ne = ap (λ l. e ∷ l) (changed_swap f g es y z (λ h. ne (ap suc h)))
 
 -- a read, a change and a write change one entry
 pub written : (f : Entry → Entry) (es fs : List Entry) (z : ℕ) (e : Entry) → fs ≡ set es z (f e) → e ≡ entry_at es z → fs ≡ changed f es z

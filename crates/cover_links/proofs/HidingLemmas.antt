@@ -1,6 +1,6 @@
 -- What a block stands for: which nodes are in their lists, and which items are in the row of active items. A node that is in its
 -- list can be hidden, and hiding it is undone by unhiding it.
-use Rattle.std.proofs.Common.{◌≡◌, ℕ, suc, ◌+◌, ◌-◌, ◌<◌, ◌≤◌, ◌^◌, ◌⊎◌, inl, inr, ◌==◌, Bool, true, false, cond, unwrap_or, List, length, filter, refl, sym, ap, ◌∙◌, subst, arith}
+use Rattle.std.proofs.Common.{◌≡◌, ℕ, suc, ◌+◌, ◌-◌, ◌*◌, ◌<◌, ◌≤◌, ◌^◌, ◌⊎◌, inl, inr, ◌==◌, Bool, true, false, cond, unwrap_or, List, length, filter, refl, sym, ap, ◌∙◌, subst, arith}
 use Rattle.std.proofs.lemmas.Bool.{cases_eq, eq-eqb, ne_eqb}
 use Rattle.std.proofs.lemmas.List.Sums.{length-filter, count_by-le-length}
 use Rattle.cover_problem.specs.Lists.{numbers, above, below}
@@ -8,15 +8,16 @@ use Rattle.cover_problem.specs.Problem.{ProblemValue, IsProblem, size_of}
 use Rattle.cover_problem.proofs.HolderLemmas.{few_options}
 use Rattle.cover_problem.proofs.NumberLemmas.{length-numbers}
 use Rattle.cover_links.specs.declared.entry.Entry.{Entry}
-use Rattle.cover_links.specs.Entries.{entry_at, changed, one_less, one_more, unlinked, relinked, IsLinked}
+use Rattle.cover_links.specs.Entries.{entry_at, next_bytes, changed, one_less, one_more, unlinked, relinked, IsLinked}
 use Rattle.cover_links.specs.Hiding.{node_hidden, node_unhidden}
 use Rattle.cover_links.specs.Safety.{IsInside, CanHideNode, CanUnhideNode}
 use Rattle.cover_links.specs.Ring.{Follows, IsRing, but_for}
-use Rattle.cover_links.specs.Layout.{node_index, spacer_of, start_of}
+use Rattle.cover_links.specs.Layout.{node_index, spacer_of}
 use Rattle.cover_links.proofs.EntryLemmas.{length-changed, kept, at_changed, at_other, length-unlinked}
+use Rattle.cover_links.proofs.SwapLemmas.{IsTouched, AreApart}
 use Rattle.cover_links.proofs.RestoreLemmas.{cancel, relink_restores, unlinked_leaves, unlinked_kept}
 use Rattle.cover_links.proofs.RingLemmas.{Leaves, leaves_next, leaves_prev, ring_kept, ring_without, next_is, prev_is, count_without, without_ne, next_member}
-use Rattle.cover_links.proofs.LayoutLemmas.{IsNode, place_high, place_low, place_apart, spacer_low}
+use Rattle.cover_links.proofs.LayoutLemmas.{IsNode, next_place, place_high, place_low, place_apart, spacer_low}
 
 -- the four links and the first field, by index
 abbrev pub down_at : List Entry → ℕ → ℕ
@@ -34,6 +35,10 @@ right_at es x = (entry_at es x).right
 abbrev pub top_at : List Entry → ℕ → ℕ
 top_at es x = (entry_at es x).top
 
+-- the bytes before the next node of an option
+abbrev pub bytes_at : List Entry → ℕ → ℕ
+bytes_at es x = next_bytes (entry_at es x)
+
 -- a list has fewer nodes than a word counts
 pub few : (p : ProblemValue) (t : ℕ → Bool) → IsProblem p → length (filter t (numbers (length p.options) 1)) ≤ 262143
 few p t problem =
@@ -48,9 +53,9 @@ pub record Stands (p : ProblemValue) (shown : ℕ → ℕ → Bool) (active : �
   pub rings : (j : ℕ) → 0 < j → j ≤ length p.names → IsRing (shown j) (node_index p j) (down_at es) (up_at es)
   pub counts : (j : ℕ) → 0 < j → j ≤ length p.names → top_at es j ≡ length (filter (shown j) (numbers (length p.options) 1))
   pub tops : (j k : ℕ) → IsNode p j k → top_at es (node_index p j k) ≡ j
-  pub starts : (j k : ℕ) → IsNode p j k → start_of p (k - 1) + left_at es (node_index p j k) ≡ node_index p j k
-  pub ends : (j k : ℕ) → IsNode p j k → node_index p j k + right_at es (node_index p j k) ≡ spacer_of p k
+  pub nexts : (j k : ℕ) → IsNode p j k → bytes_at es (node_index p j k) ≡ next_place p j k * 16
   pub spacers : (k : ℕ) → 0 < k → k ≤ length p.options → top_at es (spacer_of p k) ≡ k
+  pub blanks : (k : ℕ) → 0 < k → k ≤ length p.options → bytes_at es (spacer_of p k) ≡ 0
   pub row : IsRing active (λ i. i) (right_at es) (left_at es)
   pub aside : (i : ℕ) → p.primary < i → i ≤ length p.names → (right_at es i ≡ i) × (left_at es i ≡ i)
   pub actives : (i : ℕ) → active i ≡ true → (0 < i) × (i ≤ p.primary)
@@ -84,6 +89,20 @@ module _ (p : ProblemValue) (shown : ℕ → ℕ → Bool) (active : ℕ → Boo
   ring_inside : (j : ℕ) → j ≤ length p.names → (k : ℕ) → (k ≡ 0) ⊎ (shown j k ≡ true) → node_index p j k < length es
   ring_inside j le k (inl e) = subst (λ n. node_index p j n < length es) (sym e) (let z = s.size in omega arith)
   ring_inside j le k (inr h) = let z = s.size in let l = place_low p j k (s.shown_are j k h) in omega arith
+
+  -- the head of the item j, or a node of its list
+  abbrev pub IsInList : ℕ → ℕ → Type 0
+  IsInList j x = (m : ℕ) × ((m ≡ 0) ⊎ (shown j m ≡ true)) × (x ≡ node_index p j m)
+
+  -- no entry stands in two lists
+  lists_apart : (i j : ℕ) → (i ≡ j → ⊥) → i ≤ length p.names → j ≤ length p.names → (x : ℕ) → IsInList i x → IsInList j x → ⊥
+  lists_apart i j ne li lj x a b = pick a.0 b.0 a.1 b.1 (sym a.2 ∙ b.2)
+    where
+      pick : (m n : ℕ) → (m ≡ 0) ⊎ (shown i m ≡ true) → (n ≡ 0) ⊎ (shown j n ≡ true) → node_index p i m ≡ node_index p j n → ⊥
+      pick m n (inl e) (inl f) h = ne ((λ v. node_index p i (sym e v)) ∙ h ∙ (λ v. node_index p j (f v)))
+      pick m n (inl e) (inr g) h = let z = place_high p j n (s.shown_are j n g) in let f : i ≡ node_index p j n = (λ v. node_index p i (sym e v)) ∙ h in absurd (omega arith)
+      pick m n (inr g) (inl f) h = let z = place_high p i m (s.shown_are i m g) in let f : node_index p i m ≡ j = h ∙ (λ v. node_index p j (f v)) in absurd (omega arith)
+      pick m n (inr g) (inr f) h = ne (place_apart p i m j n (s.shown_are i m g) (s.shown_are j n f) h).0
 
   -- a node that is shown
   module _ (j k : ℕ) (pos : 0 < j) (le : j ≤ length p.names) (h : shown j k ≡ true) where
@@ -137,6 +156,13 @@ module _ (p : ProblemValue) (shown : ℕ → ℕ → Bool) (active : ℕ → Boo
     head_apart : q ≡ j → ⊥
     head_apart e = let b = place_high p j k node in absurd (omega arith)
 
+    -- what hiding the node touches stands in its list
+    pub touched_in : (x : ℕ) → IsTouched es q x → IsInList j x
+    touched_in x (inl e) = (k, inr h, e)
+    touched_in x (inr (inl e)) = (k0, before.from, e ∙ up_is)
+    touched_in x (inr (inr (inl e))) = (k1, next_member (shown j) k k1 after.to, e ∙ down_is)
+    touched_in x (inr (inr (inr e))) = (0, inl refl, e ∙ top_is)
+
     -- the block without the node
     abbrev gone : List Entry
     gone = changed one_less (unlinked es q) j
@@ -156,6 +182,9 @@ module _ (p : ProblemValue) (shown : ℕ → ℕ → Bool) (active : ℕ → Boo
 
     gone_right : (y : ℕ) → right_at gone y ≡ right_at es y
     gone_right y = kept (λ e. e.right) one_less (λ e. refl) (unlinked es q) j y ∙ unlinked_kept es q (λ e. e.right) (λ n e. refl) (λ n e. refl) y
+
+    gone_bytes : (y : ℕ) → bytes_at gone y ≡ bytes_at es y
+    gone_bytes y = λ v. gone_left y v + gone_right y v * 65536
 
     unlinked_top : (y : ℕ) → top_at (unlinked es q) y ≡ top_at es y
     unlinked_top y = unlinked_kept es q (λ e. e.top) (λ n e. refl) (λ n e. refl) y
@@ -205,9 +234,9 @@ module _ (p : ProblemValue) (shown : ℕ → ℕ → Bool) (active : ℕ → Boo
       rings = λ i a b. other_ring i a b (cases_eq i j);
       counts = λ i a b. other_count i a b (cases_eq i j);
       tops = λ i m n. gone_top (node_index p i m) (λ g. let z = place_high p i m n in absurd (omega arith)) ∙ s.tops i m n;
-      starts = λ i m n. ap (λ d. start_of p (m - 1) + d) (gone_left (node_index p i m)) ∙ s.starts i m n;
-      ends = λ i m n. ap (λ d. node_index p i m + d) (gone_right (node_index p i m)) ∙ s.ends i m n;
+      nexts = λ i m n. gone_bytes (node_index p i m) ∙ s.nexts i m n;
       spacers = λ m a b. gone_top (spacer_of p m) (λ g. let z = spacer_low p m a b in absurd (omega arith)) ∙ s.spacers m a b;
+      blanks = λ m a b. gone_bytes (spacer_of p m) ∙ s.blanks m a b;
       row = λ x y f. let r = s.row x y f in (gone_right x ∙ r.0, gone_left y ∙ r.1);
       aside = λ i a b. let r = s.aside i a b in (gone_right i ∙ r.0, gone_left i ∙ r.1);
       actives = s.actives;
@@ -255,3 +284,13 @@ module _ (p : ProblemValue) (shown : ℕ → ℕ → Bool) (active : ℕ → Boo
 
     pub back_can : CanUnhideNode (node_hidden es q) q
     back_can = subst (λ fs. CanUnhideNode fs q) (sym gone_is) gone_can
+
+-- ---- two nodes
+
+-- hiding touches nothing of another item's list
+pub nodes_apart : (p : ProblemValue) (shown : ℕ → ℕ → Bool) (active : ℕ → Bool) (es : List Entry) → IsProblem p → Stands p shown active es → (i j k : ℕ) → (i ≡ j → ⊥)
+    → (shown i k ≡ true) × (0 < i) × (i ≤ length p.names) → (shown j k ≡ true) × (0 < j) × (j ≤ length p.names) → AreApart es (node_index p i k) (node_index p j k)
+nodes_apart p shown active es problem s i j k ne a b x y m n e =
+    lists_apart p shown active es problem s i j ne a.2 b.2 y
+    (subst (λ z. IsInList p shown active es problem s i z) e (touched_in p shown active es problem s i k a.1 a.2 a.0 x m))
+    (touched_in p shown active es problem s j k b.1 b.2 b.0 y n)

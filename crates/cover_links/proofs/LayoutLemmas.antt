@@ -8,7 +8,7 @@ use Rattle.cover_problem.specs.Problem.{ProblemValue, IsProblem, option_at, size
 use Rattle.cover_problem.proofs.MemberLemmas.{has_here}
 use Rattle.cover_problem.proofs.PartLemmas.{before_here, parts_are, distinct_parts}
 use Rattle.cover_problem.proofs.ActiveLemmas.{option_is}
-use Rattle.cover_links.specs.Layout.{start_from, start_of, index_of, node_index, spacer_of}
+use Rattle.cover_links.specs.Layout.{start_from, start_of, index_of, node_index, spacer_of, place_after}
 
 -- the options after the first k and one more
 start_next : (a : ℕ) (options : List (List ℕ)) (k : ℕ) → k < length options → start_from a options (suc k) ≡ suc (start_from a options k + length (slice_index_or options k []))
@@ -99,6 +99,10 @@ run_parts p k A [] ys r = let none : A ≡ A + 0 = omega arith in (tt, subst (λ
 run_parts p k A (x ∷ xs) ys r =
     let s = run_parts p k (suc A) xs ys r.1 in let next : suc A + length xs ≡ A + suc (length xs) = omega arith in
     ((r.0, s.0), subst (λ B. IsRun p k B ys) next s.1)
+
+-- the place of the node after that of the item j in the option k
+abbrev pub next_place : ProblemValue → ℕ → ℕ → ℕ
+next_place p j k = place_after (start_of p (k - 1)) (spacer_of p k) (node_index p j k)
 
 -- ---- no two at one place
 

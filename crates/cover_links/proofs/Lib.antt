@@ -18,6 +18,7 @@ pub mod OptionLemmas
 pub mod BuiltLemmas
 pub mod BuildLemmas
 pub mod BlockLemmas
+pub mod SwapLemmas
 pub mod TableLemmas
 pub mod LinkExamples
 pub mod LayoutLemmas

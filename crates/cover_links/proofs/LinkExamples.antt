@@ -3,7 +3,7 @@ use Rattle.std.proofs.Common.{◌≡◌, [], ◌∷◌, refl}
 use Rattle.cover_problem.specs.Covering.{list_of, remaining}
 use Rattle.cover_problem.proofs.CoverExamples.{small}
 use Rattle.cover_links.specs.Entries.{entry_at, changed, unlinked, relinked, item_unlinked}
-use Rattle.cover_links.specs.Hiding.{node_hidden, node_unhidden, after_hidden, hidden, options_hidden, item_covered}
+use Rattle.cover_links.specs.Hiding.{node_hidden, node_unhidden, hidden, options_hidden, item_covered}
 use Rattle.cover_links.specs.Layout.{start_of, node_index, spacer_of}
 use Rattle.cover_links.specs.Fresh.{node_appended, option_appended, fresh}
 use Rattle.cover_links.specs.StandsFor.{nodes_of, block_of}
@@ -38,10 +38,10 @@ head_of_d = refl
 
 -- once a is covered, d has one node, the one of the option 6
 head_of_d_after_a : entry_at (block_of small (1 ∷ [])) 4 ≡ record { top = 1; up = 27; down = 27; left = 3; right = 5 }
-unfolding block_of fresh start_of option_appended node_appended node_unhidden relinked item_covered item_unlinked options_hidden hidden after_hidden node_hidden unlinked changed
+unfolding block_of fresh start_of option_appended node_appended node_unhidden relinked item_covered item_unlinked options_hidden hidden node_hidden unlinked changed
 head_of_d_after_a = refl
 
 -- and the header leads to b
 header_after_a : (entry_at (block_of small (1 ∷ [])) 0).right ≡ 2
-unfolding block_of fresh start_of option_appended node_appended node_unhidden relinked item_covered item_unlinked options_hidden hidden after_hidden node_hidden unlinked changed
+unfolding block_of fresh start_of option_appended node_appended node_unhidden relinked item_covered item_unlinked options_hidden hidden node_hidden unlinked changed
 header_after_a = refl

@@ -7,15 +7,15 @@ use Rattle.cover_problem.proofs.MemberLemmas.{has_here, has_append_cases, has_ap
 use Rattle.cover_problem.proofs.PartLemmas.{distinct_parts}
 use Rattle.cover_problem.proofs.ActiveLemmas.{option_is, IsOptionOf}
 use Rattle.cover_links.specs.declared.entry.Entry.{Entry}
-use Rattle.cover_links.specs.Entries.{entry_at, changed, to_down}
+use Rattle.cover_links.specs.Entries.{entry_at, next_bytes, changed, to_down}
 use Rattle.cover_links.specs.Fresh.{node_appended, nodes_appended, option_appended, fresh}
 use Rattle.cover_links.specs.Safety.{CanAppendNode, CanAppendNodes, CanAppendOption}
-use Rattle.cover_links.specs.Layout.{node_index, spacer_of, start_of, index_of}
+use Rattle.cover_links.specs.Layout.{node_index, spacer_of, start_of, index_of, place_after}
 use Rattle.cover_links.proofs.EntryLemmas.{length-changed, kept, at_other}
-use Rattle.cover_links.proofs.LayoutLemmas.{IsNode, IsRun, option_run, place_high, spacer_low, start_step, start_zero, start_low, start_below, index_below}
-use Rattle.cover_links.proofs.HidingLemmas.{top_at}
+use Rattle.cover_links.proofs.LayoutLemmas.{IsNode, next_place, IsRun, option_run, place_high, spacer_low, start_step, start_zero, start_low, start_below, index_below}
+use Rattle.cover_links.proofs.HidingLemmas.{top_at, bytes_at}
 use Rattle.std.specs.Cmp.{both_ways as same_test}
-use Rattle.cover_links.proofs.AppendLemmas.{Grows, Adds, at_set, set_other, append_grows, append_keeps, append_can}
+use Rattle.cover_links.proofs.AppendLemmas.{Grows, Adds, at_set, set_other, append_grows, append_keeps, append_blank, append_can}
 use Rattle.cover_links.proofs.RingLemmas.{next_member}
 
 -- the nodes of the first n options, and of the items xs in the one after them
@@ -76,16 +76,20 @@ adds p n xs j fresh = record {
 
 -- ---- the nodes of an option
 
+-- neither what the entry at y is nor where it leads to is changed
+abbrev IsSame : List Entry → List Entry → ℕ → Type 0
+IsSame es fs y = (top_at fs y ≡ top_at es y) × (bytes_at fs y ≡ bytes_at es y)
+
 pub record NodesDone (p : ProblemValue) (shown : ℕ → ℕ → Bool) (active : ℕ → Bool) (es fs : List Entry) (x start end : ℕ) (js : List ℕ) : Type 0 where
   pub grows : Grows p shown active fs
   pub can : CanAppendNodes es x start end js
-  pub keeps : (y : ℕ) → length p.names < y → (y < x) ⊎ (x + length js ≤ y) → top_at fs y ≡ top_at es y
+  pub keeps : (y : ℕ) → length p.names < y → (y < x) ⊎ (x + length js ≤ y) → IsSame es fs y
 
 nodes_done : (p : ProblemValue) (active : ℕ → Bool) (n : ℕ) → IsProblem p → n < length p.options → (js xs : List ℕ) (es : List Entry) (x : ℕ) → option_at p (suc n) ≡ xs ++ js → Grows p (upto p n xs) active es → IsRun p (suc n) x js
     → NodesDone p (upto p n (xs ++ js)) active es (nodes_appended es x (start_of p n) (spacer_of p (suc n)) js) x (start_of p n) (spacer_of p (suc n)) js
-nodes_done p active n problem lt [] xs es x e g r = record { grows = subst (λ l. Grows p (upto p n l) active es) (sym (append-nil xs)) g; can = tt; keeps = λ y a b. refl }
+nodes_done p active n problem lt [] xs es x e g r = record { grows = subst (λ l. Grows p (upto p n l) active es) (sym (append-nil xs)) g; can = tt; keeps = λ y a b. (refl, refl) }
 nodes_done p active n problem lt (j ∷ js) xs es x e g r =
-    step (nodes_done p active n problem lt js (xs ++ j ∷ []) (node_appended es x j (start_of p n) (spacer_of p (suc n))) (suc x))
+    step (nodes_done p active n problem lt js (xs ++ j ∷ []) (node_appended es x j (place_after (start_of p n) (spacer_of p (suc n)) x)) (suc x))
   where
     option : IsOptionOf p (option_at p (suc n))
     option = option_is p (suc n) problem (omega arith) (omega arith)
@@ -112,27 +116,30 @@ nodes_done p active n problem lt (j ∷ js) xs es x e g r =
     left_same : start_of p (suc n - 1) ≡ start_of p n
     left_same = let z : suc n - 1 ≡ n = omega arith in ap (start_of p) z
 
-    moved : (P : ℕ → ℕ → Type 0) → P (node_index p j (suc n)) (start_of p (suc n - 1)) → P x (start_of p n)
-    moved P h = subst (λ (w : ℕ × ℕ). P w.0 w.1) (λ v. (r.0 v, left_same v)) h
+    moved : (P : ℕ → ℕ → Type 0) → P (node_index p j (suc n)) (next_place p j (suc n)) → P x (place_after (start_of p n) (spacer_of p (suc n)) x)
+    moved P h = subst (λ (w : ℕ × ℕ). P w.0 w.1) (λ v. (r.0 v, place_after (left_same v) (spacer_of p (suc n)) (r.0 v))) h
 
-    grown : Grows p (upto p n (xs ++ j ∷ [])) active (node_appended es x j (start_of p n) (spacer_of p (suc n)))
-    grown = moved (λ y l. Grows p (upto p n (xs ++ j ∷ [])) active (node_appended es y j l (spacer_of p (suc n)))) (append_grows p active problem (upto p n xs) (upto p n (xs ++ j ∷ [])) es g j (suc n) item.0 item.1 node a)
+    grown : Grows p (upto p n (xs ++ j ∷ [])) active (node_appended es x j (place_after (start_of p n) (spacer_of p (suc n)) x))
+    grown = moved (λ y l. Grows p (upto p n (xs ++ j ∷ [])) active (node_appended es y j l)) (append_grows p active problem (upto p n xs) (upto p n (xs ++ j ∷ [])) es g j (suc n) item.0 item.1 node a)
 
-    can : CanAppendNode es x j (start_of p n) (spacer_of p (suc n))
-    can = moved (λ y l. CanAppendNode es y j l (spacer_of p (suc n))) (append_can p active problem (upto p n xs) (upto p n (xs ++ j ∷ [])) es g j (suc n) item.0 item.1 node a)
+    can : CanAppendNode es x j (place_after (start_of p n) (spacer_of p (suc n)) x)
+    can = moved (λ y l. CanAppendNode es y j l) (append_can p active problem (upto p n xs) (upto p n (xs ++ j ∷ [])) es g j (suc n) item.0 item.1 node a)
 
-    keeps : (y : ℕ) → length p.names < y → (y ≡ x → ⊥) → top_at (node_appended es x j (start_of p n) (spacer_of p (suc n))) y ≡ top_at es y
-    keeps y h ne = moved (λ z l. (y ≡ z → ⊥) → top_at (node_appended es z j l (spacer_of p (suc n))) y ≡ top_at es y) (append_keeps p active problem (upto p n xs) (upto p n (xs ++ j ∷ [])) es g j (suc n) item.0 item.1 node a y h) ne
+    keeps : (y : ℕ) → length p.names < y → (y ≡ x → ⊥) → IsSame es (node_appended es x j (place_after (start_of p n) (spacer_of p (suc n)) x)) y
+    keeps y h ne = moved (λ z l. (y ≡ z → ⊥) → IsSame es (node_appended es z j l) y) (λ d. (
+      append_keeps p active problem (upto p n xs) (upto p n (xs ++ j ∷ [])) es g j (suc n) item.0 item.1 node a y h d,
+      append_blank p active problem (upto p n xs) (upto p n (xs ++ j ∷ [])) es g j (suc n) item.0 item.1 node a y d,
+    )) ne
 
-    step : (option_at p (suc n) ≡ (xs ++ j ∷ []) ++ js → Grows p (upto p n (xs ++ j ∷ [])) active (node_appended es x j (start_of p n) (spacer_of p (suc n))) → IsRun p (suc n) (suc x) js
-        → NodesDone p (upto p n ((xs ++ j ∷ []) ++ js)) active (node_appended es x j (start_of p n) (spacer_of p (suc n))) (nodes_appended (node_appended es x j (start_of p n) (spacer_of p (suc n))) (suc x) (start_of p n) (spacer_of p (suc n)) js) (suc x) (start_of p n) (spacer_of p (suc n)) js)
+    step : (option_at p (suc n) ≡ (xs ++ j ∷ []) ++ js → Grows p (upto p n (xs ++ j ∷ [])) active (node_appended es x j (place_after (start_of p n) (spacer_of p (suc n)) x)) → IsRun p (suc n) (suc x) js
+        → NodesDone p (upto p n ((xs ++ j ∷ []) ++ js)) active (node_appended es x j (place_after (start_of p n) (spacer_of p (suc n)) x)) (nodes_appended (node_appended es x j (place_after (start_of p n) (spacer_of p (suc n)) x)) (suc x) (start_of p n) (spacer_of p (suc n)) js) (suc x) (start_of p n) (spacer_of p (suc n)) js)
         → NodesDone p (upto p n (xs ++ j ∷ js)) active es (nodes_appended es x (start_of p n) (spacer_of p (suc n)) (j ∷ js)) x (start_of p n) (spacer_of p (suc n)) (j ∷ js)
     step ih =
         let rest = ih (e ∙ sym (append_assoc xs (j ∷ []) js)) grown r.1 in
         record {
           grows = subst (λ l. Grows p (upto p n l) active (nodes_appended es x (start_of p n) (spacer_of p (suc n)) (j ∷ js))) (append_assoc xs (j ∷ []) js) rest.grows;
           can = (can, rest.can);
-          keeps = λ y h b. rest.keeps y h (later y b) ∙ keeps y h (apart y b);
+          keeps = λ y h b. let k = rest.keeps y h (later y b) in let l = keeps y h (apart y b) in (k.0 ∙ l.0, k.1 ∙ l.1);
         }
       where
         later : (y : ℕ) → (y < x) ⊎ (x + length (j ∷ js) ≤ y) → (y < suc x) ⊎ (suc x + length js ≤ y)
@@ -175,8 +182,7 @@ grows_aside p shown active es fs z problem g long high apart same =
       rings = λ j a b x y f. let q = g.rings j a b x y f in (ap (λ (e : Entry). e.down) (member j b x f.from) ∙ q.0, ap (λ (e : Entry). e.up) (member j b y (next_member (shown j) x y f.to)) ∙ q.1);
       counts = λ j a b. ap (λ (e : Entry). e.top) (head j b) ∙ g.counts j a b;
       tops = λ j k h. ap (λ (e : Entry). e.top) (node j k h) ∙ g.tops j k h;
-      starts = λ j k h. ap (λ (e : Entry). start_of p (k - 1) + e.left) (node j k h) ∙ g.starts j k h;
-      ends = λ j k h. ap (λ (e : Entry). node_index p j k + e.right) (node j k h) ∙ g.ends j k h;
+      nexts = λ j k h. ap next_bytes (node j k h) ∙ g.nexts j k h;
       row = λ x y f. let q = g.row x y f in (ap (λ (e : Entry). e.right) (head x (low x f.from)) ∙ q.0, ap (λ (e : Entry). e.left) (head y (low y (next_member active x y f.to))) ∙ q.1);
       aside = λ i a b. let q = g.aside i a b in (ap (λ (e : Entry). e.right) (head i b) ∙ q.0, ap (λ (e : Entry). e.left) (head i b) ∙ q.1);
       actives = g.actives;
@@ -192,9 +198,13 @@ grows_aside p shown active es fs z problem g long high apart same =
 
 -- ---- the options
 
+-- the spacer past the option numbered k: it has that number, and leads to no next node
+abbrev pub IsSpacer : List Entry → ℕ → ℕ → Type 0
+IsSpacer es x k = (top_at es x ≡ k) × (bytes_at es x ≡ 0)
+
 pub record BuiltDone (p : ProblemValue) (active : ℕ → Bool) (n : ℕ) (es : List Entry) : Type 0 where
   pub grows : Grows p (upto p n []) active es
-  pub spacers : (k : ℕ) → 0 < k → k ≤ n → top_at es (spacer_of p k) ≡ k
+  pub spacers : (k : ℕ) → 0 < k → k ≤ n → IsSpacer es (spacer_of p k) k
 
 module _ (p : ProblemValue) (active : ℕ → Bool) (n : ℕ) (problem : IsProblem p) (lt : n < length p.options) (es : List Entry) (d : BuiltDone p active n es) where
   abbrev o : List ℕ
@@ -255,14 +265,18 @@ module _ (p : ProblemValue) (active : ℕ → Bool) (n : ℕ) (problem : IsProbl
           pick (inl e) = subst (λ z. upto p n o j z ≡ true) (sym e) (upto_new p n o j (subst (λ z. has (option_at p z) j ≡ true) e a.2))
           pick (inr ne) = upto_old p n o j k a.0 (let b = a.1 in omega (arith, ne)) a.2
 
-  spacer_is : (k : ℕ) → 0 < k → k ≤ suc n → (k ≡ suc n) ⊎ (k ≡ suc n → ⊥) → top_at hs (spacer_of p k) ≡ k
-  spacer_is k a b (inl e) = (λ v. top_at hs (spacer_of p (e v))) ∙ ap (λ (w : Entry). w.top) (at_set gs end (record { top = suc n; up = start; down = 0; left = 0; right = 0 }) end_low) ∙ sym e
+  spacer_is : (k : ℕ) → 0 < k → k ≤ suc n → (k ≡ suc n) ⊎ (k ≡ suc n → ⊥) → IsSpacer hs (spacer_of p k) k
+  spacer_is k a b (inl e) =
+      let here = at_set gs end (record { top = suc n; up = start; down = 0; left = 0; right = 0 }) end_low in
+      subst (λ m. IsSpacer hs (spacer_of p m) m) (sym e) (ap (λ (w : Entry). w.top) here, ap next_bytes here)
   spacer_is k a b (inr ne) =
       let le : k ≤ n = omega (arith, ne) in
       let up = spacer_rises p k n le lt in let low = spacer_low p k a (omega arith) in let l = low.0 in
-      ap (λ (w : Entry). w.top) (set_other gs end (spacer_of p k) (record { top = suc n; up = start; down = 0; left = 0; right = 0 }) (λ e. absurd (omega arith)))
-      ∙ kept (λ w. w.top) (to_down (end - 1)) (λ w. refl) fs (start - 1) (spacer_of p k)
-      ∙ nodes.keeps (spacer_of p k) (omega arith) (inl (sooner k a le)) ∙ d.spacers k a le
+      let other = set_other gs end (spacer_of p k) (record { top = suc n; up = start; down = 0; left = 0; right = 0 }) (λ e. absurd (omega arith)) in
+      let same = nodes.keeps (spacer_of p k) (omega arith) (inl (sooner k a le)) in let was = d.spacers k a le in (
+        ap (λ (w : Entry). w.top) other ∙ kept (λ w. w.top) (to_down (end - 1)) (λ w. refl) fs (start - 1) (spacer_of p k) ∙ same.0 ∙ was.0,
+        ap next_bytes other ∙ kept next_bytes (to_down (end - 1)) (λ w. refl) fs (start - 1) (spacer_of p k) ∙ same.1 ∙ was.1,
+      )
     where
       sooner : (k : ℕ) → 0 < k → k ≤ n → spacer_of p k < start
       sooner zero a le = absurd (omega arith)

@@ -1,24 +1,27 @@
--- Hiding the nodes of a run, the others of an option, and the options of a list: each stays in the block, gives a block that stands
--- for what is left, and is undone by the way back.
-use Rattle.std.proofs.Common.{◌≡◌, ℕ, suc, ◌+◌, ◌-◌, ◌<◌, ◌≤◌, ◌^◌, ◌⊎◌, inl, inr, ◌==◌, Bool, true, false, not, List, [], ◌∷◌, ◌++◌, length, refl, sym, ap, ◌∙◌, subst, arith, length-append}
+-- Hiding nodes of an option, and all but one of them: it stays in the block, gives a block that stands for what is left, and is undone
+-- by the way back. The nodes stand in lists of their own, so that the first one that was hidden may come back first.
+use Rattle.std.proofs.Common.{◌≡◌, ℕ, zero, suc, ◌+◌, ◌-◌, ◌*◌, ◌/◌, ◌<◌, ◌≤◌, ◌⊎◌, inl, inr, ◌==◌, Bool, true, false, not, List, [], ◌∷◌, ◌++◌, length, refl, sym, ap, ◌∙◌, subst, arith, length-append}
 use Rattle.std.specs.List.{before_first, after_first}
-use Rattle.std.proofs.lemmas.Bool.{and_parts, cases_eq, cases_lt, not-true, both_ways, false≢true}
+use Rattle.std.proofs.lemmas.Bool.{and_parts, and_from, cases_eq, eq-eqb, ne_eqb, not-true, not_from_false, both_ways, false≢true}
 use Rattle.cover_problem.specs.Lists.{has, are_distinct}
 use Rattle.cover_problem.specs.Problem.{ProblemValue, IsProblem, option_at}
-use Rattle.cover_problem.proofs.MemberLemmas.{has_cases, has_here, has_later, has_append_left, has_append_right, has_append_cases}
-use Rattle.cover_problem.proofs.PartLemmas.{parts_are, distinct_parts}
+use Rattle.cover_problem.proofs.MemberLemmas.{has_cases, has_here, has_later, has_append_left, has_append_right, has_append_cases, has_append_not_from}
+use Rattle.cover_problem.proofs.PartLemmas.{parts_are, distinct_parts, distinct_from}
 use Rattle.cover_problem.proofs.ActiveLemmas.{option_is, IsOptionOf}
 use Rattle.cover_links.specs.declared.entry.Entry.{Entry}
-use Rattle.cover_links.specs.Entries.{option_start, option_end}
-use Rattle.cover_links.specs.Hiding.{node_hidden, node_unhidden, run_hidden, run_unhidden, after_hidden, hidden, before_unhidden, unhidden}
-use Rattle.cover_links.specs.Safety.{CanHideNode, CanUnhideNode, CanHideRun, CanUnhideRun, CanHide, CanUnhide}
-use Rattle.cover_links.specs.Layout.{node_index, start_of}
+use Rattle.cover_links.specs.Entries.{entry_at, next_node, HasNext}
+use Rattle.cover_links.specs.Hiding.{node_hidden, node_unhidden, nodes_hidden, nodes_unhidden, until, other_nodes, hidden, unhidden}
+use Rattle.cover_links.specs.Safety.{CanUnhideNode, CanHideNodes, CanUnhideNodes, LeadsTo, GoesRound, CanHide, CanUnhide}
+use Rattle.cover_links.specs.Layout.{node_index, start_of, place_after}
+use Rattle.cover_links.specs.StandsFor.{IsWalk}
 use Rattle.cover_links.proofs.RingLemmas.{without_stays}
-use Rattle.cover_links.proofs.LayoutLemmas.{IsNode, IsRun, option_run, run_parts, place_low, spacer_low}
-use Rattle.cover_links.proofs.BuildLemmas.{size_small}
-use Rattle.cover_links.proofs.HidingLemmas.{Stands, minus, minus_here, minus_other, minus_was, left_at, node_stands, node_can, node_back, back_can}
+use Rattle.cover_links.proofs.LayoutLemmas.{IsNode, IsRun, option_run, run_parts, place_low, place_apart, spacer_low}
+use Rattle.cover_links.proofs.EntryLemmas.{times_div}
+use Rattle.cover_links.proofs.SwapLemmas.{hide_swap}
+use Rattle.cover_links.proofs.TurnLemmas.{until_here, until_on}
+use Rattle.cover_links.proofs.HidingLemmas.{Stands, minus, minus_here, minus_other, minus_was, bytes_at, nodes_apart, node_stands, node_can, node_back, back_can}
 
--- ---- a run of nodes
+-- ---- nodes of an option
 
 -- shown, but for these items in the option k
 abbrev pub run_gone : (ℕ → ℕ → Bool) → ℕ → List ℕ → ℕ → ℕ → Bool
@@ -37,7 +40,7 @@ run_other shown k (j ∷ js) i h = step (run_other (minus shown j k) k js i) (ca
         pick true e = absurd (both_ways (has (j ∷ js) i) h (has_later j js i e))
         pick false e = e
 
--- what is left was shown, and is no node of the run
+-- what is left was shown, and is none of these nodes
 pub run_was : (shown : ℕ → ℕ → Bool) (k : ℕ) (js : List ℕ) (i m : ℕ) → run_gone shown k js i m ≡ true → (shown i m ≡ true) × (has js i ≡ true → m ≡ k → ⊥)
 run_was shown k [] i m h = (h, λ g. absurd (false≢true g))
 run_was shown k (j ∷ js) i m h =
@@ -60,76 +63,155 @@ pub run_stays : (shown : ℕ → ℕ → Bool) (k : ℕ) (js : List ℕ) (i m : 
 run_stays shown k [] i m ne = refl
 run_stays shown k (j ∷ js) i m ne = run_stays (minus shown j k) k js i m ne ∙ minus_stays shown j k i m ne
 
-pub record RunDone (p : ProblemValue) (shown : ℕ → ℕ → Bool) (active : ℕ → Bool) (es : List Entry) (A n : ℕ) : Type 0 where
-  pub stands : Stands p shown active (run_hidden es A n)
-  pub can : CanHideRun es A n
-  pub back : run_unhidden (run_hidden es A n) A n ≡ es
-  pub back_can : CanUnhideRun (run_hidden es A n) A (A + n)
+-- the places of these items' nodes in the option k
+abbrev pub places : ProblemValue → ℕ → List ℕ → List ℕ
+places p k [] = []
+places p k (j ∷ js) = node_index p j k ∷ places p k js
 
-pub run_done : (p : ProblemValue) (active : ℕ → Bool) (k : ℕ) → IsProblem p → (js : List ℕ) (shown : ℕ → ℕ → Bool) (es : List Entry) (A : ℕ) → Stands p shown active es → IsRun p k A js → are_distinct js ≡ true
-    → ((j : ℕ) → has js j ≡ true → (shown j k ≡ true) × (0 < j) × (j ≤ length p.names)) → RunDone p (run_gone shown k js) active es A (length js)
-run_done p active k problem [] shown es A s r d all = record { stands = s; can = tt; back = refl; back_can = λ q a b. absurd (omega arith) }
-run_done p active k problem (j ∷ js) shown es A s r d all =
-    step (run_done p active k problem js (minus shown j k) (node_hidden es A) (suc A)) (all j (has_here j js)) (and_parts (not (has js j)) (are_distinct js) d)
+-- each of them is in its list
+abbrev pub AreShown : ProblemValue → (ℕ → ℕ → Bool) → ℕ → List ℕ → Type 0
+AreShown p shown k js = (j : ℕ) → has js j ≡ true → (shown j k ≡ true) × (0 < j) × (j ≤ length p.names)
+
+-- they still are once the node of another item is hidden
+still_shown : (p : ProblemValue) (shown : ℕ → ℕ → Bool) (k i : ℕ) (js : List ℕ) → has js i ≡ false → AreShown p shown k js → AreShown p (minus shown i k) k js
+still_shown p shown k i js none all j h =
+    let a = all j h in
+    (ap (λ (f : ℕ → Bool). f k) (minus_other shown i k j (λ e. both_ways (has js i) none (subst (λ n. has js n ≡ true) e h))) ∙ a.0, a.1, a.2)
+
+-- a node that is hidden before others may be hidden after them
+first_last : (p : ProblemValue) (active : ℕ → Bool) (k : ℕ) → IsProblem p → (js : List ℕ) (shown : ℕ → ℕ → Bool) (es : List Entry) → Stands p shown active es → (j : ℕ) → AreShown p shown k (j ∷ js) → are_distinct (j ∷ js) ≡ true
+    → nodes_hidden (node_hidden es (node_index p j k)) (places p k js) ≡ node_hidden (nodes_hidden es (places p k js)) (node_index p j k)
+first_last p active k problem [] shown es s j all d = refl
+first_last p active k problem (i ∷ js) shown es s j all d = step (first_last p active k problem js (minus shown i k) (node_hidden es (node_index p i k)))
   where
-    later : has js j ≡ false → (i : ℕ) → has js i ≡ true → (minus shown j k i k ≡ true) × (0 < i) × (i ≤ length p.names)
-    later none i h =
-        let a = all i (has_later j js i h) in
-        (ap (λ (f : ℕ → Bool). f k) (minus_other shown j k i (λ e. both_ways (has js j) none (subst (λ n. has js n ≡ true) e h))) ∙ a.0, a.1, a.2)
+    parts : (not (has (i ∷ js) j) ≡ true) × (are_distinct (i ∷ js) ≡ true)
+    parts = and_parts (not (has (i ∷ js) j)) (are_distinct (i ∷ js)) d
 
-    step : (Stands p (minus shown j k) active (node_hidden es A) → IsRun p k (suc A) js → are_distinct js ≡ true → ((i : ℕ) → has js i ≡ true → (minus shown j k i k ≡ true) × (0 < i) × (i ≤ length p.names))
-        → RunDone p (run_gone (minus shown j k) k js) active (node_hidden es A) (suc A) (length js)) → (shown j k ≡ true) × (0 < j) × (j ≤ length p.names) → (not (has js j) ≡ true) × (are_distinct js ≡ true) → RunDone p (run_gone shown k (j ∷ js)) active es A (length (j ∷ js))
-    step ih here apart =
-        let rest = ih (subst (λ n. Stands p (minus shown j k) active (node_hidden es n)) r.0 (node_stands p shown active es problem s j k here.1 here.2 here.0)) r.1 apart.1 (later (not-true (has js j) apart.0)) in
-        let can : CanHideNode es A = subst (λ n. CanHideNode es n) r.0 (node_can p shown active es problem s j k here.1 here.2 here.0) in
-        let back : node_unhidden (node_hidden es A) A ≡ es = subst (λ n. node_unhidden (node_hidden es n) n ≡ es) r.0 (node_back p shown active es problem s j k here.1 here.2 here.0) in
-        let again : CanUnhideNode (node_hidden es A) A = subst (λ n. CanUnhideNode (node_hidden es n) n) r.0 (back_can p shown active es problem s j k here.1 here.2 here.0) in
-        record {
-          stands = rest.stands;
-          can = (can, rest.can);
-          back = ap (λ fs. node_unhidden fs A) rest.back ∙ back;
-          back_can = λ q a b. pick rest.back rest.back_can again q a b (cases_lt A q);
-        }
+    inner : (not (has js i) ≡ true) × (are_distinct js ≡ true)
+    inner = and_parts (not (has js i)) (are_distinct js) parts.1
+
+    apart : j ≡ i → ⊥
+    apart e = both_ways (has (i ∷ js) j) (not-true (has (i ∷ js) j) parts.0) (subst (λ n. has (i ∷ js) n ≡ true) (sym e) (has_here i js))
+
+    here : (shown i k ≡ true) × (0 < i) × (i ≤ length p.names)
+    here = all i (has_later j (i ∷ js) i (has_here i js))
+
+    step : (Stands p (minus shown i k) active (node_hidden es (node_index p i k)) → (m : ℕ) → AreShown p (minus shown i k) k (m ∷ js) → are_distinct (m ∷ js) ≡ true
+        → nodes_hidden (node_hidden (node_hidden es (node_index p i k)) (node_index p m k)) (places p k js) ≡ node_hidden (nodes_hidden (node_hidden es (node_index p i k)) (places p k js)) (node_index p m k))
+        → nodes_hidden (node_hidden es (node_index p j k)) (places p k (i ∷ js)) ≡ node_hidden (nodes_hidden es (places p k (i ∷ js))) (node_index p j k)
+    step ih =
+        ap (λ fs. nodes_hidden fs (places p k js)) (hide_swap es (node_index p j k) (node_index p i k) (nodes_apart p shown active es problem s j i k apart (all j (has_here j (i ∷ js))) here))
+        ∙ ih (node_stands p shown active es problem s i k here.1 here.2 here.0) j (still_shown p shown k i (j ∷ js) without keep) distinct
       where
-        pick : run_unhidden (run_hidden (node_hidden es A) (suc A) (length js)) (suc A) (length js) ≡ node_hidden es A → CanUnhideRun (run_hidden (node_hidden es A) (suc A) (length js)) (suc A) (suc A + length js) → CanUnhideNode (node_hidden es A) A
-            → (q : ℕ) → A ≤ q → q < A + suc (length js) → (A < q) ⊎ (q ≤ A) → CanUnhideNode (run_unhidden (run_hidden (node_hidden es A) (suc A) (length js)) (suc q) (A + suc (length js) - suc q)) q
-        pick back all again q a b (inl l) =
-            let e : suc A + length js ≡ A + suc (length js) = omega arith in
-            subst (λ n. CanUnhideNode (run_unhidden (run_hidden (node_hidden es A) (suc A) (length js)) (suc q) (n - suc q)) q) e (all q (omega arith) (omega arith))
-        pick back all again q a b (inr l) =
-            let e : A ≡ q = omega arith in let n : length js ≡ A + suc (length js) - suc A = omega arith in
-            subst (λ z. CanUnhideNode (run_unhidden (run_hidden (node_hidden es A) (suc A) (length js)) (suc z) (A + suc (length js) - suc z)) z) e
-            (subst (λ z. CanUnhideNode (run_unhidden (run_hidden (node_hidden es A) (suc A) (length js)) (suc A) z) A) n (subst (λ fs. CanUnhideNode fs A) (sym back) again))
+        absent : has js j ≡ false
+        absent = pick (has js j) refl
+          where
+            pick : (b : Bool) → has js j ≡ b → has js j ≡ false
+            pick true e = absurd (both_ways (has (i ∷ js) j) (not-true (has (i ∷ js) j) parts.0) (has_later i js j e))
+            pick false e = e
+
+        without : has (j ∷ js) i ≡ false
+        without = pick (has (j ∷ js) i) refl
+          where
+            rest : (j ≡ i) ⊎ (has js i ≡ true) → ⊥
+            rest (inl e) = apart e
+            rest (inr e) = both_ways (has js i) (not-true (has js i) inner.0) e
+
+            pick : (b : Bool) → has (j ∷ js) i ≡ b → has (j ∷ js) i ≡ false
+            pick true e = absurd (rest (has_cases j js i e))
+            pick false e = e
+
+        keep : AreShown p shown k (j ∷ js)
+        keep m h = pick (has_cases j js m h)
+          where
+            pick : (j ≡ m) ⊎ (has js m ≡ true) → (shown m k ≡ true) × (0 < m) × (m ≤ length p.names)
+            pick (inl e) = all m (subst (λ n. has (j ∷ i ∷ js) n ≡ true) e (has_here j (i ∷ js)))
+            pick (inr g) = all m (has_later j (i ∷ js) m (has_later i js m g))
+
+        distinct : are_distinct (j ∷ js) ≡ true
+        distinct = and_from (not (has js j)) (are_distinct js) (not_from_false (has js j) absent) inner.1
+
+pub record RunDone (p : ProblemValue) (shown : ℕ → ℕ → Bool) (active : ℕ → Bool) (es : List Entry) (k : ℕ) (js : List ℕ) : Type 0 where
+  pub stands : Stands p (run_gone shown k js) active (nodes_hidden es (places p k js))
+  pub can : CanHideNodes es (places p k js)
+  pub back : nodes_unhidden (nodes_hidden es (places p k js)) (places p k js) ≡ es
+  pub back_can : CanUnhideNodes (nodes_hidden es (places p k js)) (places p k js)
+
+pub run_done : (p : ProblemValue) (active : ℕ → Bool) (k : ℕ) → IsProblem p → (js : List ℕ) (shown : ℕ → ℕ → Bool) (es : List Entry) → Stands p shown active es → are_distinct js ≡ true → AreShown p shown k js → RunDone p shown active es k js
+run_done p active k problem [] shown es s d all = record { stands = s; can = tt; back = refl; back_can = tt }
+run_done p active k problem (j ∷ js) shown es s d all =
+    step (run_done p active k problem js (minus shown j k) (node_hidden es (node_index p j k))) (run_done p active k problem js shown es)
+  where
+    parts : (not (has js j) ≡ true) × (are_distinct js ≡ true)
+    parts = and_parts (not (has js j)) (are_distinct js) d
+
+    absent : has js j ≡ false
+    absent = not-true (has js j) parts.0
+
+    here : (shown j k ≡ true) × (0 < j) × (j ≤ length p.names)
+    here = all j (has_here j js)
+
+    rest : AreShown p shown k js
+    rest i h = all i (has_later j js i h)
+
+    A : ℕ
+    A = node_index p j k
+
+    step : (Stands p (minus shown j k) active (node_hidden es A) → are_distinct js ≡ true → AreShown p (minus shown j k) k js → RunDone p (minus shown j k) active (node_hidden es A) k js)
+        → (Stands p shown active es → are_distinct js ≡ true → AreShown p shown k js → RunDone p shown active es k js) → RunDone p shown active es k (j ∷ js)
+    step on at =
+        let more = on (node_stands p shown active es problem s j k here.1 here.2 here.0) parts.1 (still_shown p shown k j js absent rest) in
+        let same = at s parts.1 rest in
+        let e = first_last p active k problem js shown es s j all d in
+        let mine : run_gone shown k js j k ≡ true = ap (λ (f : ℕ → Bool). f k) (run_other shown k js j absent) ∙ here.0 in
+        let first : node_unhidden (nodes_hidden (node_hidden es A) (places p k js)) A ≡ nodes_hidden es (places p k js) =
+        ap (λ fs. node_unhidden fs A) e ∙ node_back p (run_gone shown k js) active (nodes_hidden es (places p k js)) problem same.stands j k here.1 here.2 mine in
+        record {
+          stands = more.stands;
+          can = (node_can p shown active es problem s j k here.1 here.2 here.0, more.can);
+          back = ap (λ fs. nodes_unhidden fs (places p k js)) first ∙ same.back;
+          back_can = (
+            subst (λ fs. CanUnhideNode fs A) (sym e) (back_can p (run_gone shown k js) active (nodes_hidden es (places p k js)) problem same.stands j k here.1 here.2 mine),
+            subst (λ fs. CanUnhideNodes fs (places p k js)) (sym first) same.back_can,
+          );
+        }
 
 -- ---- the others of an option
 
+-- the other items of the option k, from the one after i on, round it
+abbrev pub other_items : ProblemValue → ℕ → ℕ → List ℕ
+other_items p i k = after_first (λ x. x == i) (option_at p k) ++ before_first (λ x. x == i) (option_at p k)
+
 -- shown, but for the option k's other items than i
 abbrev pub option_gone : ProblemValue → ℕ → (ℕ → ℕ → Bool) → ℕ → ℕ → ℕ → Bool
-option_gone p i shown k = run_gone (run_gone shown k (after_first (λ x. x == i) (option_at p k))) k (before_first (λ x. x == i) (option_at p k))
+option_gone p i shown k = run_gone shown k (other_items p i k)
 
 pub option_stays : (p : ProblemValue) (i : ℕ) (shown : ℕ → ℕ → Bool) (k j m : ℕ) → (m ≡ k → ⊥) → option_gone p i shown k j m ≡ shown j m
-option_stays p i shown k j m ne =
-    run_stays (run_gone shown k (after_first (λ x. x == i) (option_at p k))) k (before_first (λ x. x == i) (option_at p k)) j m ne
-    ∙ run_stays shown k (after_first (λ x. x == i) (option_at p k)) j m ne
+option_stays p i shown k j m ne = run_stays shown k (other_items p i k) j m ne
+
+-- each item of an option is i or another one
+other_item : (p : ProblemValue) (i k j : ℕ) → has (option_at p k) i ≡ true → has (option_at p k) j ≡ true → (j ≡ i → ⊥) → has (other_items p i k) j ≡ true
+other_item p i k j hi hj ne = pick (has_append_cases xs (i ∷ ys) j (subst (λ l. has l j ≡ true) (parts_are i (option_at p k) hi) hj))
+  where
+    xs : List ℕ
+    xs = before_first (λ x. x == i) (option_at p k)
+
+    ys : List ℕ
+    ys = after_first (λ x. x == i) (option_at p k)
+
+    rest : (i ≡ j) ⊎ (has ys j ≡ true) → has (ys ++ xs) j ≡ true
+    rest (inl e) = absurd (ne (sym e))
+    rest (inr g) = has_append_left ys xs j g
+
+    pick : (has xs j ≡ true) ⊎ (has (i ∷ ys) j ≡ true) → has (ys ++ xs) j ≡ true
+    pick (inl g) = has_append_right ys xs j g
+    pick (inr g) = rest (has_cases i ys j g)
 
 -- what is left was shown, and is no other node of the option
 pub option_was : (p : ProblemValue) (i : ℕ) (shown : ℕ → ℕ → Bool) (k j m : ℕ) → has (option_at p k) i ≡ true → has (option_at p m) j ≡ true → option_gone p i shown k j m ≡ true → (shown j m ≡ true) × ((j ≡ i → ⊥) → m ≡ k → ⊥)
 option_was p i shown k j m hi hj h =
-    let one = run_was (run_gone shown k (after_first (λ x. x == i) (option_at p k))) k (before_first (λ x. x == i) (option_at p k)) j m h in
-    let two = run_was shown k (after_first (λ x. x == i) (option_at p k)) j m one.0 in (
-      two.0,
-      λ ne e. pick one.1 two.1 ne e (has_append_cases (before_first (λ x. x == i) (option_at p k)) (i ∷ after_first (λ x. x == i) (option_at p k)) j
-          (subst (λ l. has l j ≡ true) (parts_are i (option_at p k) hi) (subst (λ n. has (option_at p n) j ≡ true) e hj))),
-    )
-  where
-    pick : (has (before_first (λ x. x == i) (option_at p k)) j ≡ true → m ≡ k → ⊥) → (has (after_first (λ x. x == i) (option_at p k)) j ≡ true → m ≡ k → ⊥) → (j ≡ i → ⊥) → m ≡ k
-        → (has (before_first (λ x. x == i) (option_at p k)) j ≡ true) ⊎ (has (i ∷ after_first (λ x. x == i) (option_at p k)) j ≡ true) → ⊥
-    pick a b ne e (inl g) = a g e
-    pick a b ne e (inr g) = rest (has_cases i (after_first (λ x. x == i) (option_at p k)) j g)
-      where
-        rest : (i ≡ j) ⊎ (has (after_first (λ x. x == i) (option_at p k)) j ≡ true) → ⊥
-        rest (inl d) = ne (sym d)
-        rest (inr d) = b d e
+    let w = run_was shown k (other_items p i k) j m h in
+    (w.0, λ ne e. w.1 (other_item p i k j hi (subst (λ n. has (option_at p n) j ≡ true) e hj) ne) e)
 
 pub record HideDone (p : ProblemValue) (shown : ℕ → ℕ → Bool) (active : ℕ → Bool) (es : List Entry) (x : ℕ) : Type 0 where
   pub stands : Stands p shown active (hidden es x)
@@ -162,6 +244,17 @@ module _ (p : ProblemValue) (active : ℕ → Bool) (problem : IsProblem p) (i k
   runs : IsRun p (suc k) (start_of p k) xs × IsRun p (suc k) (start_of p k + length xs) (i ∷ ys)
   runs = run_parts p (suc k) (start_of p k) xs (i ∷ ys) (subst (λ l. IsRun p (suc k) (start_of p k) l) parts (option_run p k problem within))
 
+  -- where the item's node stands
+  q_place : node_index p i (suc k) ≡ start_of p k + length xs
+  q_place = runs.1.0
+
+  -- inside the option the next place is one further, and after the last comes the first
+  inside : (a : ℕ) → suc a < start_of p k + length o → place_after (start_of p k) (start_of p k + length o) a ≡ suc a
+  inside a lt = let f : a + 1 == start_of p k + length o ≡ false = ne_eqb (a + 1) (start_of p k + length o) (λ e. absurd (omega arith)) in rw f (let e : a + 1 ≡ suc a = omega arith in e)
+
+  at_end : (a : ℕ) → suc a ≡ start_of p k + length o → place_after (start_of p k) (start_of p k + length o) a ≡ start_of p k
+  at_end a e = let f : a + 1 == start_of p k + length o ≡ true = eq-eqb (a + 1) (start_of p k + length o) (omega arith) in rw f refl
+
   node_here : IsNode p i (suc k)
   node_here = record { some = omega arith; within = omega arith; has_item = h }
 
@@ -175,112 +268,127 @@ module _ (p : ProblemValue) (active : ℕ → Bool) (problem : IsProblem p) (i k
   pub not_after : has ys i ≡ false
   not_after = not-true (has ys i) later_distinct.0
 
+  abbrev others_of : List ℕ
+  others_of = other_items p i (suc k)
+
+  not_other : has others_of i ≡ false
+  not_other = has_append_not_from ys xs i not_after not_before
+
   -- the list of the item i itself is kept
   pub column_kept : (shown : ℕ → ℕ → Bool) → option_gone p i shown (suc k) i ≡ shown i
-  column_kept shown = run_other (run_gone shown (suc k) ys) (suc k) xs i not_before ∙ run_other shown (suc k) ys i not_after
+  column_kept shown = run_other shown (suc k) others_of i not_other
+
+  -- the others are items of the option, each once
+  other_in : (j : ℕ) → has others_of j ≡ true → has o j ≡ true
+  other_in j h = subst (λ l. has l j ≡ true) (sym parts) (pick (has_append_cases ys xs j h))
+    where
+      pick : (has ys j ≡ true) ⊎ (has xs j ≡ true) → has (xs ++ i ∷ ys) j ≡ true
+      pick (inl g) = has_append_right xs (i ∷ ys) j (has_later i ys j g)
+      pick (inr g) = has_append_left xs (i ∷ ys) j g
+
+  others_distinct : are_distinct others_of ≡ true
+  others_distinct = distinct_from ys xs later_distinct.1 distinct.0 (λ j h. pick j (has xs j) refl h)
+    where
+      pick : (j : ℕ) (b : Bool) → has xs j ≡ b → has ys j ≡ true → has xs j ≡ false
+      pick j true e h = absurd (both_ways (has (i ∷ ys) j) (distinct.2 j e) (has_later i ys j h))
+      pick j false e h = e
+
+  abbrev q : ℕ
+  q = node_index p i (suc k)
+
+  abbrev start : ℕ
+  start = start_of p k
+
+  abbrev end : ℕ
+  end = start_of p k + length o
+
+  long : length o ≡ length xs + suc (length ys)
+  long = ap length parts ∙ length-append xs (i ∷ ys)
+
+  other_apart : (j : ℕ) → has others_of j ≡ true → node_index p j (suc k) ≡ q → ⊥
+  other_apart j h e =
+      let n : IsNode p j (suc k) = record { some = omega arith; within = omega arith; has_item = other_in j h } in
+      both_ways (has others_of i) not_other (subst (λ m. has others_of m ≡ true) (place_apart p j (suc k) i (suc k) n node_here e).0 h)
+
+  module _ (shown : ℕ → ℕ → Bool) (es : List Entry) (s : Stands p shown active es) where
+    link : (j : ℕ) → has o j ≡ true → bytes_at es (node_index p j (suc k)) ≡ place_after start end (node_index p j (suc k)) * 16
+    link j h =
+        let e : suc k - 1 ≡ k = omega arith in
+        s.nexts j (suc k) (record { some = omega arith; within = omega arith; has_item = h }) ∙ ap (λ n. place_after (start_of p n) end (node_index p j (suc k)) * 16) e
+
+    next_is : (j : ℕ) → has o j ≡ true → next_node es (node_index p j (suc k)) ≡ place_after start end (node_index p j (suc k))
+    next_is j h = ap (λ n. n / 16) (link j h) ∙ times_div (place_after start end (node_index p j (suc k)))
+
+    has_next : (j : ℕ) → has o j ≡ true → HasNext (entry_at es (node_index p j (suc k)))
+    has_next j h = subst (λ n. n / 16 * 16 ≡ n) (sym (link j h)) (ap (λ n. n * 16) (times_div (place_after start end (node_index p j (suc k)))))
+
+    -- the nodes before q are met after the option's first place, and then q itself
+    walk_before : (js : List ℕ) (a b : ℕ) → ((j : ℕ) → has js j ≡ true → has o j ≡ true) → next_node es a ≡ b → IsRun p (suc k) b js → b + length js ≡ q → IsWalk (next_node es) a (places p (suc k) js) q
+    walk_before [] a b all at r e = at ∙ (let f : b ≡ q = omega arith in f)
+    walk_before (j ∷ js) a b all at r e =
+        let h = all j (has_here j js) in
+        let on : next_node es (node_index p j (suc k)) ≡ suc b = next_is j h ∙ ap (place_after start end) r.0 ∙ inside b (let l = long in let z = q_place in omega arith) in
+        (at ∙ sym r.0, walk_before js (node_index p j (suc k)) (suc b) (λ i g. all i (has_later j js i g)) on r.1 (omega arith))
+
+    -- the nodes after q, and then those
+    walk_after : (js : List ℕ) (a : ℕ) → ((j : ℕ) → has js j ≡ true → has o j ≡ true) → next_node es a ≡ place_after start end a → IsRun p (suc k) (suc a) js → suc a + length js ≡ end → IsWalk (next_node es) a (places p (suc k) (js ++ xs)) q
+    walk_after [] a all at r e =
+        walk_before xs a start (λ j h. subst (λ l. has l j ≡ true) (sym parts) (has_append_left xs (i ∷ ys) j h)) (at ∙ at_end a (omega arith)) runs.0 (sym q_place)
+    walk_after (j ∷ js) a all at r e =
+        let h = all j (has_here j js) in
+        (at ∙ inside a (omega arith) ∙ sym r.0, walk_after js (node_index p j (suc k)) (λ i g. all i (has_later j js i g)) (next_is j h) (subst (λ b. IsRun p (suc k) (suc b) js) (sym r.0) r.1) (let f = r.0 in omega arith))
+
+    round : IsWalk (next_node es) q (places p (suc k) others_of) q
+    round = walk_after ys q (λ j g. subst (λ l. has l j ≡ true) (sym parts) (has_append_right xs (i ∷ ys) j (has_later i ys j g))) (next_is i h) (subst (λ b. IsRun p (suc k) (suc b) ys) (sym q_place) runs.1.1) (let l = long in let z = q_place in omega arith)
+
+    -- the way round is walked
+    walked : (js : List ℕ) (a n : ℕ) → ((j : ℕ) → has js j ≡ true → (has o j ≡ true) × (node_index p j (suc k) ≡ q → ⊥)) → IsWalk (next_node es) a (places p (suc k) js) q → length js ≤ n
+        → (until (next_node es) q (next_node es a) n ≡ places p (suc k) js) × LeadsTo es q (next_node es a) n
+    walked [] a zero all w le = (refl, w)
+    walked [] a (suc n) all w le = (until_here (next_node es) q (next_node es a) (suc n) w, inl w)
+    walked (j ∷ js) a zero all w le = absurd (omega arith)
+    walked (j ∷ js) a (suc n) all w le =
+        let x = node_index p j (suc k) in let h = all j (has_here j js) in
+        let r = walked js x n (λ i g. all i (has_later j js i g)) w.1 (omega arith) in
+        subst (λ y. (until (next_node es) q y (suc n) ≡ places p (suc k) (j ∷ js)) × LeadsTo es q y (suc n)) (sym w.0)
+        (until_on (next_node es) q x n h.1 ∙ ap (λ l. x ∷ l) r.0, inr (has_next j h.0, r.1))
+
+    whole : (until (next_node es) q (next_node es q) (length es) ≡ places p (suc k) others_of) × LeadsTo es q (next_node es q) (length es)
+    whole = walked others_of q (length es) (λ j g. (other_in j g, other_apart j g)) round (let b = (spacer_low p (suc k) (omega arith) (omega arith)).1 in let z = s.size in let l = long in let c = length-append ys xs in omega arith)
+
+    pub others_are : other_nodes es q ≡ places p (suc k) others_of
+    others_are = whole.0
+
+    pub is_round : GoesRound es q
+    is_round = record { here = (let z = s.size in let l = place_low p i (suc k) node_here in omega arith); link = has_next i h; leads = whole.1 }
 
   module _ (shown : ℕ → ℕ → Bool) (es : List Entry) (s : Stands p shown active es) (all : (j : ℕ) → has o j ≡ true → shown j (suc k) ≡ true) where
-    abbrev q : ℕ
-    q = node_index p i (suc k)
-
-    later_all : (j : ℕ) → has ys j ≡ true → (shown j (suc k) ≡ true) × (0 < j) × (j ≤ length p.names)
-    later_all j m =
-        let g : has o j ≡ true = subst (λ l. has l j ≡ true) (sym parts) (has_append_right xs (i ∷ ys) j (has_later i ys j m)) in
-        let r = option.items j g in (all j g, r.0, r.1)
-
-    sooner_all : (j : ℕ) → has xs j ≡ true → (run_gone shown (suc k) ys j (suc k) ≡ true) × (0 < j) × (j ≤ length p.names)
-    sooner_all j m =
-        let g : has o j ≡ true = subst (λ l. has l j ≡ true) (sym parts) (has_append_left xs (i ∷ ys) j m) in
-        let r = option.items j g in
-        (ap (λ (f : ℕ → Bool). f (suc k)) (run_other shown (suc k) ys j (pick (has ys j) refl)) ∙ all j g, r.0, r.1)
-      where
-        pick : (b : Bool) → has ys j ≡ b → has ys j ≡ false
-        pick true e = absurd (both_ways (has (i ∷ ys) j) (distinct.2 j m) (has_later i ys j e))
-        pick false e = e
-
-    one : RunDone p (run_gone shown (suc k) ys) active es (suc q) (length ys)
-    one = run_done p active (suc k) problem ys shown es (suc q) s runs.1.1 later_distinct.1 later_all
-
-    abbrev mid : List Entry
-    mid = run_hidden es (suc q) (length ys)
-
-    two : RunDone p (option_gone p i shown (suc k)) active mid (start_of p k) (length xs)
-    two = run_done p active (suc k) problem xs (run_gone shown (suc k) ys) mid (start_of p k) one.stands runs.0 distinct.0 sooner_all
+    one : RunDone p shown active es (suc k) others_of
+    one = run_done p active (suc k) problem others_of shown es s others_distinct (λ j m. let r = option.items j (other_in j m) in (all j (other_in j m), r.0, r.1))
 
     abbrev all_hidden : List Entry
-    all_hidden = run_hidden mid (start_of p k) (length xs)
-
-    begin_is : (f : ℕ → ℕ → Bool) (gs : List Entry) → Stands p f active gs → start_of p k + left_at gs q ≡ q
-    begin_is f gs t = let e : k ≡ suc k - 1 = omega arith in ap (λ n. start_of p n + left_at gs q) e ∙ t.starts i (suc k) node_here
-
-    start_is : (f : ℕ → ℕ → Bool) (gs : List Entry) → Stands p f active gs → option_start gs q ≡ start_of p k
-    start_is f gs t = let b = begin_is f gs t in omega arith
-
-    end_is : (f : ℕ → ℕ → Bool) (gs : List Entry) → Stands p f active gs → option_end gs q ≡ start_of p k + length o
-    end_is f gs t = t.ends i (suc k) node_here
-
-    end_small : start_of p k + length o < 2 ^ 28
-    end_small = let s = size_small p problem in let b = (spacer_low p (suc k) (omega arith) (omega arith)).1 in omega arith
-
-    long : length o ≡ length xs + suc (length ys)
-    long = ap length parts ∙ length-append xs (i ∷ ys)
-
-    after_count : (n : ℕ) → n ≡ start_of p k + length o → n - suc q ≡ length ys
-    after_count n e = let l = long in omega arith
-
-    before_count : (n : ℕ) → n ≡ start_of p k → q - n ≡ length xs
-    before_count n e = omega arith
-
-    after_is : after_hidden es q ≡ mid
-    unfolding after_hidden
-    after_is = ap (λ n. run_hidden es (suc q) n) (after_count (option_end es q) (end_is shown es s))
+    all_hidden = nodes_hidden es (places p (suc k) others_of)
 
     hidden_is : hidden es q ≡ all_hidden
     unfolding hidden
-    hidden_is = (λ j. run_hidden (after_is j) (start_is shown es s j) (q - start_is shown es s j)) ∙ ap (λ n. run_hidden mid (start_of p k) n) (before_count (start_of p k) refl)
-
-    low : (f : ℕ → ℕ → Bool) (gs : List Entry) → Stands p f active gs → q < length gs
-    low f gs t = let z = t.size in let l = place_low p i (suc k) node_here in omega arith
-
-    -- back: first those before the node, and then those after it
-    before_is : before_unhidden all_hidden q ≡ mid
-    unfolding before_unhidden
-    before_is =
-        let b = start_is (option_gone p i shown (suc k)) all_hidden two.stands in
-        (λ j. run_unhidden all_hidden (b j) (q - b j)) ∙ ap (λ n. run_unhidden all_hidden (start_of p k) n) (before_count (start_of p k) refl) ∙ two.back
+    hidden_is = ap (nodes_hidden es) (others_are shown es s)
 
     back_is : unhidden all_hidden q ≡ es
     unfolding unhidden
-    back_is =
-        let r = end_is (option_gone p i shown (suc k)) all_hidden two.stands in
-        (λ j. run_unhidden (before_is j) (suc q) (option_end all_hidden q - suc q)) ∙ ap (λ n. run_unhidden mid (suc q) n) (after_count (option_end all_hidden q) r) ∙ one.back
+    back_is = ap (nodes_unhidden all_hidden) (others_are (option_gone p i shown (suc k)) all_hidden one.stands) ∙ one.back
 
     can_hide : CanHide es q
-    can_hide = record {
-      here = low shown es s;
-      begin = (let b = begin_is shown es s in omega arith);
-      end = (let r = end_is shown es s in let l = long in omega arith);
-      word = subst (λ n. n < 2 ^ 28) (sym (end_is shown es s)) end_small;
-      after = subst (λ n. CanHideRun es (suc q) n) (sym (after_count (option_end es q) (end_is shown es s))) one.can;
-      before = subst (λ (w : List Entry × ℕ × ℕ). CanHideRun w.0 w.1 w.2) (λ j. (sym after_is j, sym (start_is shown es s) j, sym (before_count (option_start es q) (start_is shown es s)) j)) two.can;
-    }
+    can_hide = record { round = is_round shown es s; nodes = subst (CanHideNodes es) (sym (others_are shown es s)) one.can }
 
     can_back : CanUnhide all_hidden q
-    can_back =
-        let t = two.stands in let b = begin_is (option_gone p i shown (suc k)) all_hidden t in let l = start_is (option_gone p i shown (suc k)) all_hidden t in
-        let r = end_is (option_gone p i shown (suc k)) all_hidden t in
-        record {
-          here = low (option_gone p i shown (suc k)) all_hidden t;
-          begin = omega arith;
-          end = (let n = long in omega arith);
-          word = subst (λ n. n < 2 ^ 28) (sym r) end_small;
-          before = subst (λ n. CanUnhideRun all_hidden n q) (sym l) two.back_can;
-          after = subst (λ (w : List Entry × ℕ). CanUnhideRun w.0 (suc q) w.1) (λ j. (sym before_is j, (let n = long in let e : suc q + length ys ≡ option_end all_hidden q = omega arith in e) j)) one.back_can;
-        }
+    can_back = record {
+      round = is_round (option_gone p i shown (suc k)) all_hidden one.stands;
+      nodes = subst (CanUnhideNodes all_hidden) (sym (others_are (option_gone p i shown (suc k)) all_hidden one.stands)) one.back_can;
+    }
 
     pub hide_done : HideDone p (option_gone p i shown (suc k)) active es q
     hide_done = record {
-      stands = subst (λ fs. Stands p (option_gone p i shown (suc k)) active fs) (sym hidden_is) two.stands;
+      stands = subst (λ fs. Stands p (option_gone p i shown (suc k)) active fs) (sym hidden_is) one.stands;
       can = can_hide;
       back = ap (λ fs. unhidden fs q) hidden_is ∙ back_is;
       back_can = subst (λ fs. CanUnhide fs q) (sym hidden_is) can_back;

@@ -1,6 +1,6 @@
 -- What is read off the links of a table.
-use Rattle.std.proofs.Common.{◌≡◌, ℕ, zero, suc, ◌+◌, ◌-◌, ◌<◌, ◌≤◌, ◌^◌, ◌⊎◌, inl, inr, ◌==◌, true, false, Option, Some, None, unwrap_or, List, [], ◌∷◌, ◌++◌, length, length-append, filter, get_or, take, refl, sym, ap, ◌∙◌, subst, arith}
-use Rattle.std.proofs.lemmas.Bool.{ne_eqb, cases_lt}
+use Rattle.std.proofs.Common.{◌≡◌, ℕ, zero, suc, ◌+◌, ◌-◌, ◌*◌, ◌<◌, ◌≤◌, ◌⊎◌, inl, inr, ◌==◌, true, false, Option, Some, None, unwrap_or, List, [], ◌∷◌, ◌++◌, length, length-append, filter, get_or, take, refl, sym, ap, ◌∙◌, subst, arith}
+use Rattle.std.proofs.lemmas.Bool.{eq-eqb, ne_eqb, cases_lt}
 use Rattle.std.proofs.Math.Seq.{take-append_seam}
 use Rattle.cover_problem.specs.Lists.{has, numbers, above, below, last_of}
 use Rattle.cover_problem.specs.Problem.{ProblemValue, option_at, size_of}
@@ -18,13 +18,13 @@ use Rattle.cover_links.specs.Entries.{entry_at}
 use Rattle.cover_links.specs.Hiding.{item_covered, item_uncovered}
 use Rattle.cover_links.specs.Safety.{CanCoverItem, CanUncoverItem}
 use Rattle.cover_links.specs.StandsFor.{block_of}
-use Rattle.cover_links.specs.Layout.{node_index, start_of, index_of}
+use Rattle.cover_links.specs.Layout.{node_index, spacer_of, start_of, index_of}
 use Rattle.cover_links.specs.Ring.{Follows}
 use Rattle.cover_links.specs.Table.{IsTable, nonzero, IsHeadOrNode}
-use Rattle.cover_links.proofs.LayoutLemmas.{IsNode, IsRun, option_run, place_high, place_low, spacer_low, start_step, start_below, start_last, index_below}
-use Rattle.cover_links.proofs.BuildLemmas.{size_small, start_most}
+use Rattle.cover_links.proofs.LayoutLemmas.{IsNode, IsRun, next_place, option_run, place_high, place_low, spacer_low, start_low, start_step, start_below, start_last, index_below}
+use Rattle.cover_links.proofs.BuildLemmas.{size_small, place_between, after_between, start_most}
 use Rattle.cover_links.proofs.RingLemmas.{next_is, prev_is, last_to_head, next_member}
-use Rattle.cover_links.proofs.HidingLemmas.{Stands, down_at, up_at, right_at, top_at}
+use Rattle.cover_links.proofs.HidingLemmas.{Stands, down_at, up_at, right_at, top_at, bytes_at}
 use Rattle.cover_links.proofs.Covered.{shown_of, active_of, active_is, active_when}
 use Rattle.cover_links.proofs.BlockLemmas.{links_stand, shown_list, active_list, step_done, block_push}
 use Rattle.cover_links.proofs.CoverStep.{CoverDone}
@@ -84,6 +84,34 @@ module _ {p : ProblemValue} {c : List ℕ} {items : ℕ} {block : List Entry} {s
   pub active_low : (x : ℕ) → has (active p c) x ≡ true → x < length block
   active_low x h = let q = active_in p c x h in item_low x (omega (arith, t.problem.within, q.2))
 
+  -- ---- the nodes of an option
+
+  run_at : (k A : ℕ) (js : List ℕ) (n : ℕ) → IsRun p k A js → n < length js → node_index p (get_or js n 0) k ≡ A + n
+  run_at k A [] n r lt = absurd (omega arith)
+  run_at k A (j ∷ js) zero r lt = r.0 ∙ (let e : A ≡ A + 0 = omega arith in e)
+  run_at k A (j ∷ js) (suc n) r lt = run_at k (suc A) js n r.1 (omega arith) ∙ (let e : suc A + n ≡ A + suc n = omega arith in e)
+
+  -- the entry that stands n past an option's first node tells the item of that node
+  pub item_at : (k n : ℕ) → k < length p.options → n < length (option_at p (suc k)) → node_index p (top_at block (start_of p k + n)) (suc k) ≡ start_of p k + n
+  item_at k n lt b =
+      let o = option_at p (suc k) in
+      let r = run_at (suc k) (start_of p k) o n (option_run p k t.problem lt) b in
+      let node : IsNode p (get_or o n 0) (suc k) = record { some = omega arith; within = omega arith; has_item = has_at o n 0 b } in
+      let top = (stands).tops (get_or o n 0) (suc k) node in
+      ap (λ i. node_index p i (suc k)) (ap (top_at block) (sym r) ∙ top) ∙ r
+
+  -- an entry between an option's first place and its spacer leads to another one of them
+  between_node : (k x : ℕ) → 0 < k → k ≤ length p.options → start_of p (k - 1) ≤ x → x < spacer_of p k → (n : ℕ) × (start_of p (k - 1) ≤ n) × (bytes_at block x ≡ n * 16)
+  between_node zero x some le low high = absurd (omega arith)
+  between_node (suc k) x some le low high =
+      let e : suc k - 1 ≡ k = omega arith in let f = ap (start_of p) e in
+      let o = option_at p (suc k) in let m = x - start_of p k in let lt : m < length o = omega arith in
+      let j = get_or o m 0 in
+      let at : node_index p j (suc k) ≡ x = run_at (suc k) (start_of p k) o m (option_run p k t.problem (omega arith)) lt ∙ (let g : start_of p k + m ≡ x = omega arith in g) in
+      let node : IsNode p j (suc k) = record { some = some; within = le; has_item = has_at o m 0 lt } in
+      let b = place_between p j (suc k) node in
+      (next_place p j (suc k), (after_between (start_of p (suc k - 1)) (spacer_of p (suc k)) (node_index p j (suc k)) b.0 b.1).0, ap (bytes_at block) (sym at) ∙ (stands).nexts j (suc k) node)
+
   -- ---- the lists
 
   module _ (j : ℕ) (pos : 0 < j) (le : j ≤ length p.names) where
@@ -102,16 +130,22 @@ module _ {p : ProblemValue} {c : List ℕ} {items : ℕ} {block : List Entry} {s
     spot : (k : ℕ) → (k ≡ 0) ⊎ (shown_of p c j k ≡ true) → IsHeadOrNode block j (node_index p j k) k
     spot k (inl e) = inl (ap (node_index p j) e, e)
     spot k (inr h) =
-        let s = stands in let n = s.shown_are j k h in let high = place_high p j k n in let low = place_low p j k n in let z = s.size in
-        let b = spacer_low p k n.some n.within in let d = b.1 in
-        inr (record {
-          apart = λ e. absurd (omega arith);
-          here = omega arith;
-          end = subst (λ m. m < length block) (sym (s.ends j k n)) (omega arith);
-          word = subst (λ m. m < 2 ^ 32) (sym (s.ends j k n)) (let w = size_small p t.problem in omega arith);
-          number = ap (top_at block) (s.ends j k n) ∙ s.spacers k n.some n.within;
-          some = n.some;
-        })
+        let s = stands in let n = s.shown_are j k h in let high = place_high p j k n in let z = s.size in
+        let b = spacer_low p k n.some n.within in let c = place_between p j k n in
+        inr (
+          spacer_of p k,
+          record {
+            apart = λ e. absurd (omega arith);
+            past = c.1;
+            within = (let d = b.1 in omega arith);
+            word = (let d = b.1 in let w = size_small p t.problem in omega arith);
+            nodes = λ x low high. let m = between_node k x n.some n.within (let l = c.0 in omega arith) high in
+                ne_eqb (bytes_at block x) 0 (λ e. let l = start_low p (k - 1) in let a = m.0 in let f = m.1 in absurd (omega arith));
+            end = eq-eqb (bytes_at block (spacer_of p k)) 0 (s.blanks k n.some n.within);
+            number = s.spacers k n.some n.within;
+            some = n.some;
+          },
+        )
 
     next_leads : (x : ℕ) → (x ≡ 0) ⊎ (shown_of p c j x ≡ true) → IsLinkTo block j (down_at block (node_index p j x)) (above x L)
     next_leads x from =
@@ -158,22 +192,6 @@ module _ {p : ProblemValue} {c : List ℕ} {items : ℕ} {block : List Entry} {s
         let f = subst (λ l. Follows (shown_of p c j) (unwrap_or (below o l) 0) o) (shown_list p c j) (prev_is (shown_of p c j) (length p.options) (within j item.0 item.1) o (is_shown j item.0 item.1 o m)) in
         subst (λ n. IsLinkTo block j n (below o (list_of p c j))) (sym (link ∙ ap (λ (e : Entry). e.up) (is ∙ ap (entry_at block) at)))
         (prev_leads j item.0 item.1 o (below o (list_of p c j)) f (λ k h. (below_is o 1 (list_of p c j) k (list_rises p c j) h).member))
-
-  -- ---- the nodes of an option
-
-  run_at : (k A : ℕ) (js : List ℕ) (n : ℕ) → IsRun p k A js → n < length js → node_index p (get_or js n 0) k ≡ A + n
-  run_at k A [] n r lt = absurd (omega arith)
-  run_at k A (j ∷ js) zero r lt = r.0 ∙ (let e : A ≡ A + 0 = omega arith in e)
-  run_at k A (j ∷ js) (suc n) r lt = run_at k (suc A) js n r.1 (omega arith) ∙ (let e : suc A + n ≡ A + suc n = omega arith in e)
-
-  -- the entry that stands n past an option's first node tells the item of that node
-  pub item_at : (k n : ℕ) → k < length p.options → n < length (option_at p (suc k)) → node_index p (top_at block (start_of p k + n)) (suc k) ≡ start_of p k + n
-  item_at k n lt b =
-      let o = option_at p (suc k) in
-      let r = run_at (suc k) (start_of p k) o n (option_run p k t.problem lt) b in
-      let node : IsNode p (get_or o n 0) (suc k) = record { some = omega arith; within = omega arith; has_item = has_at o n 0 b } in
-      let top = (stands).tops (get_or o n 0) (suc k) node in
-      ap (λ i. node_index p i (suc k)) (ap (top_at block) (sym r) ∙ top) ∙ r
 
   -- where the nodes of an option lie, between the numbers read for it
   module _ (j o : ℕ) {b e : ℕ} (some : 0 < o) (le : o ≤ length p.options) (h : has (option_at p o) j ≡ true) (first : b ≡ get_or starts (o - 1) b) (past : e ≡ get_or starts o e) where

@@ -1,260 +1,143 @@
--- Going round an option from one of its places: what is hidden, or has come back, at each turn.
-use Rattle.std.proofs.Common.{◌≡◌, ℕ, suc, ◌+◌, ◌-◌, ◌<◌, ◌≤◌, ◌⊎◌, ◌==◌, nat_lt, cond, true, false, inl, inr, List, refl, sym, ap, ◌∙◌, subst, arith, if◌then◌else◌}
-use Rattle.std.proofs.lemmas.Bool.Decides.{eqb_tells}
+-- The loops that go round an option, by the link of each node to the next one: they hide its other nodes, or put them back.
+use Rattle.std.proofs.Common.{◌≡◌, ℕ, zero, suc, ◌*◌, ◌/◌, ◌<◌, ◌⊎◌, inl, inr, ◌==◌, true, false, List, [], ◌∷◌, length, refl, sym, ap, ◌∙◌, subst, arith}
+use Rattle.std.proofs.lemmas.Bool.{cases_eq, eq-eqb, ne_eqb}
 use Rattle.cover_links.specs.declared.entry.Entry.{Entry}
-use Rattle.cover_links.specs.Entries.{option_start, option_end}
-use Rattle.cover_links.specs.Hiding.{node_hidden, node_unhidden, run_hidden, run_unhidden, after_hidden, hidden, before_unhidden, unhidden}
-use Rattle.cover_links.specs.Safety.{CanHideNode, CanUnhideNode, CanHideRun, CanHide, CanUnhide}
-use Rattle.cover_links.proofs.EntryLemmas.{run_hidden_step}
-use Rattle.cover_links.proofs.SafetyLemmas.{hide_run_step}
+use Rattle.cover_links.specs.Entries.{entry_at, next_bytes, next_of, next_node, HasNext}
+use Rattle.cover_links.specs.Hiding.{node_hidden, node_unhidden, nodes_hidden, nodes_unhidden, until, other_nodes, hidden, unhidden}
+use Rattle.cover_links.specs.Safety.{CanHideNode, CanUnhideNode, CanHideNodes, CanUnhideNodes, LeadsTo, GoesRound, CanHide, CanUnhide}
+use Rattle.cover_links.proofs.EntryLemmas.{length-node_hidden, length-node_unhidden, hidden_link, unhidden_link}
 
--- the place after q, and the one before it, in an option from `start` up to `end`
-abbrev pub after_place : ℕ → ℕ → ℕ → ℕ
-after_place q start end = if q + 1 == end then start else q + 1
+-- ---- the way round
 
-abbrev pub before_place : ℕ → ℕ → ℕ → ℕ
-before_place q start end = if q == start then end - 1 else q - 1
+pub until_here : (link : ℕ → ℕ) (p q n : ℕ) → q ≡ p → until link p q n ≡ []
+until_here link p q zero e = refl
+until_here link p q (suc n) e = let f : q == p ≡ true = eq-eqb q p e in rw f refl
 
-by_equal : {P : Type 0} (a b : ℕ) → ((a == b) ≡ true → a ≡ b → P) → ((a == b) ≡ false → (a ≡ b → ⊥) → P) → P
-by_equal {P} a b same differs = by_case (eqb_tells a b)
+pub until_on : (link : ℕ → ℕ) (p q n : ℕ) → (q ≡ p → ⊥) → until link p q (suc n) ≡ q ∷ until link p (link q) n
+until_on link p q n ne = let f : q == p ≡ false = ne_eqb q p ne in rw f refl
+
+-- a turn more than enough
+leads_more : (es : List Entry) (p q n : ℕ) → LeadsTo es p q n → LeadsTo es p q (suc n)
+leads_more es p q zero e = inl e
+leads_more es p q (suc n) (inl e) = inl e
+leads_more es p q (suc n) (inr l) = inr (l.0, leads_more es p (next_node es q) n l.1)
+
+until_more : (es : List Entry) (p q n : ℕ) → LeadsTo es p q n → until (next_node es) p q (suc n) ≡ until (next_node es) p q n
+until_more es p q zero e = until_here (next_node es) p q 1 e
+until_more es p q (suc n) l = step (until_more es p (next_node es q) n) (cases_eq q p) l
   where
-    by_case : (((a == b) ≡ true) × (a ≡ b)) ⊎ (((a == b) ≡ false) × (a ≡ b → ⊥)) → P
-    by_case (inl e) = same e.0 e.1
-    by_case (inr e) = differs e.0 e.1
+    step : (LeadsTo es p (next_node es q) n → until (next_node es) p (next_node es q) (suc n) ≡ until (next_node es) p (next_node es q) n) → (q ≡ p) ⊎ (q ≡ p → ⊥) → LeadsTo es p q (suc n)
+        → until (next_node es) p q (suc (suc n)) ≡ until (next_node es) p q (suc n)
+    step ih (inl e) l = until_here (next_node es) p q (suc (suc n)) e ∙ sym (until_here (next_node es) p q (suc n) e)
+    step ih (inr ne) (inl e) = absurd (ne e)
+    step ih (inr ne) (inr l) = until_on (next_node es) p q (suc n) ne ∙ ap (λ qs. q ∷ qs) (ih l.1) ∙ sym (until_on (next_node es) p q n ne)
 
--- ---- hiding
+-- what is known at a node on the way, from which the others stand ahead
+record IsOn (es : List Entry) (p q n : ℕ) : Type 0 where
+  pub link : HasNext (entry_at es q)
+  pub ahead : until (next_node es) p q n ≡ q ∷ until (next_node es) p (next_node es q) n
+  pub leads : LeadsTo es p (next_node es q) n
 
--- q comes after p: the nodes from q up to the end are still to be hidden, and then those from the start up to p
-pub record HidesAfter (whole es : List Entry) (p start end q : ℕ) : Type 0 where
-  pub low : start ≤ p
-  pub above : p < q
-  pub below : q < end
-  pub rest : run_hidden (run_hidden es q (end - q)) start (p - start) ≡ whole
-  pub can : CanHideRun es q (end - q)
-  pub next : CanHideRun (run_hidden es q (end - q)) start (p - start)
+is_on : (es : List Entry) (p q n : ℕ) → (q ≡ p → ⊥) → LeadsTo es p q n → IsOn es p q n
+is_on es p q zero ne e = absurd (ne e)
+is_on es p q (suc n) ne (inl e) = absurd (ne e)
+is_on es p q (suc n) ne (inr l) = record {
+  link = l.0;
+  ahead = until_on (next_node es) p q n ne ∙ ap (λ qs. q ∷ qs) (sym (until_more es p (next_node es q) n l.1));
+  leads = leads_more es p (next_node es q) n l.1;
+}
 
--- q comes before p, or is p: the nodes from q up to p are still to be hidden
-pub record HidesBefore (whole es : List Entry) (p start end q : ℕ) : Type 0 where
-  pub low : start ≤ q
-  pub high : q ≤ p
-  pub within : p < end
-  pub rest : run_hidden es q (p - q) ≡ whole
-  pub can : CanHideRun es q (p - q)
+-- ---- the turns
 
-abbrev pub Hides : List Entry → List Entry → ℕ → ℕ → ℕ → ℕ → Type 0
-Hides whole es p start end q = HidesAfter whole es p start end q ⊎ HidesBefore whole es p start end q
+-- what is done to one node, and to a list of them: the links to the next ones are kept
+pub record Turns (one : List Entry → ℕ → List Entry) (Can : List Entry → ℕ → Type 0) (all : List Entry → List ℕ → List Entry) (CanAll : List Entry → List ℕ → Type 0) : Type 0 where
+  pub same_length : (es : List Entry) (q : ℕ) → length (one es q) ≡ length es
+  pub same_link : (es : List Entry) (q x : ℕ) → next_bytes (entry_at (one es q) x) ≡ next_bytes (entry_at es x)
+  pub here : {es : List Entry} {q : ℕ} → Can es q → q < length es
+  pub none : (es : List Entry) → all es [] ≡ es
+  pub more : (es : List Entry) (q : ℕ) (qs : List ℕ) → all es (q ∷ qs) ≡ all (one es q) qs
+  pub can_more : (es : List Entry) (q : ℕ) (qs : List ℕ) → CanAll es (q ∷ qs) → Can es q × CanAll (one es q) qs
+
+pub hiding : Turns node_hidden CanHideNode nodes_hidden CanHideNodes
+hiding = record { same_length = length-node_hidden; same_link = hidden_link; here = λ can. can.inside.here; none = λ es. refl; more = λ es q qs. refl; can_more = λ es q qs can. can }
+
+pub unhiding : Turns node_unhidden CanUnhideNode nodes_unhidden CanUnhideNodes
+unhiding = record { same_length = length-node_unhidden; same_link = unhidden_link; here = λ can. can.here; none = λ es. refl; more = λ es q qs. refl; can_more = λ es q qs can. can }
+
+-- the nodes from q on round to p, in the block as it was
+abbrev pub ahead : List Entry → ℕ → ℕ → List ℕ
+ahead old p q = until (next_node old) p q (length old)
 
 -- how many turns are left
-abbrev pub turns_to_hide : ℕ → ℕ → ℕ → ℕ → ℕ
-turns_to_hide p start end q = cond (nat_lt p q) ((end - q) + (p - start)) (p - q)
+abbrev pub turns_left : List Entry → ℕ → ℕ → ℕ
+turns_left old p q = length (ahead old p q)
 
-pub hides_begin : (es : List Entry) (p start end q : ℕ) → CanHide es p → start ≡ option_start es p → end ≡ option_end es p → q ≡ after_place p start end → Hides (hidden es p) es p start end q
-unfolding hidden after_hidden
-hides_begin es p start end q can s e at_q = by_equal (p + 1) end at_end inside
-  where
-    next : suc p ≡ p + 1
-    next = omega arith
+-- the nodes from q on are left to do
+pub record Goes (all : List Entry → List ℕ → List Entry) (CanAll : List Entry → List ℕ → Type 0) (whole old es : List Entry) (p q : ℕ) : Type 0 where
+  pub rest : all es (ahead old p q) ≡ whole
+  pub can : CanAll es (ahead old p q)
+  pub leads : LeadsTo old p q (length old)
+  pub link : (x : ℕ) → next_bytes (entry_at es x) ≡ next_bytes (entry_at old x)
 
-    low : start ≤ p
-    low = let l = can.begin in omega arith
+-- ---- where q is not p
 
-    within : p < end
-    within = let l = can.end in omega arith
+pub turns_fall : (old : List Entry) (p q : ℕ) → (q ≡ p → ⊥) → LeadsTo old p q (length old) → turns_left old p (next_node old q) < turns_left old p q
+turns_fall old p q ne l = let o = is_on old p q (length old) ne l in let e = ap length o.ahead in omega arith
 
-    whole_is : run_hidden (run_hidden es (p + 1) (end - (p + 1))) start (p - start) ≡ hidden es p
-    whole_is = (λ j. run_hidden (run_hidden es (sym next j) (e j - sym next j)) (s j) (p - s j))
+module _ {one : List Entry → ℕ → List Entry} {Can : List Entry → ℕ → Type 0} {all : List Entry → List ℕ → List Entry} {CanAll : List Entry → List ℕ → Type 0} (turns : Turns one Can all CanAll) where
+  pub goes_begin : {es : List Entry} {p q : ℕ} → GoesRound es p → CanAll es (other_nodes es p) → q ≡ next_node es p → Goes all CanAll (all es (other_nodes es p)) es es p q
+  goes_begin {es} {p} {q} round can e = record {
+    rest = ap (λ x. all es (ahead es p x)) e;
+    can = subst (λ x. CanAll es (ahead es p x)) (sym e) can;
+    leads = subst (λ x. LeadsTo es p x (length es)) (sym e) round.leads;
+    link = λ x. refl;
+  }
 
-    can_after : CanHideRun es (p + 1) (end - (p + 1))
-    can_after = subst (λ (k : ℕ × ℕ). CanHideRun es k.0 (k.1 - k.0)) (λ j. (next j, sym e j)) can.after
+  module _ {whole old es : List Entry} {p q : ℕ} (goes : Goes all CanAll whole old es p q) where
+    pub goes_end : q ≡ p → es ≡ whole
+    goes_end e = sym (turns.none es) ∙ ap (all es) (sym (until_here (next_node old) p q (length old) e)) ∙ goes.rest
 
-    can_before : CanHideRun (run_hidden es (p + 1) (end - (p + 1))) start (p - start)
-    can_before = subst (λ (k : ℕ × ℕ × ℕ). CanHideRun (run_hidden es k.0 (k.1 - k.0)) k.2 (p - k.2)) (λ j. (next j, sym e j, sym s j)) can.before
+    module _ (ne : q ≡ p → ⊥) where
+      on : IsOn old p q (length old)
+      on = is_on old p q (length old) ne goes.leads
 
-    at_end : ((p + 1) == end) ≡ true → p + 1 ≡ end → Hides (hidden es p) es p start end q
-    at_end t h =
-        let here : q ≡ start = at_q ∙ (rw t refl) in
-        let none : end - (p + 1) ≡ 0 = omega arith in
-        inr (record {
-          low = omega arith;
-          high = omega arith;
-          within = within;
-          rest = ap (λ k. run_hidden es k (p - k)) here ∙ sym (ap (λ n. run_hidden (run_hidden es (p + 1) n) start (p - start)) none) ∙ whole_is;
-          can = subst (λ k. CanHideRun es k (p - k)) (sym here) (subst (λ n. CanHideRun (run_hidden es (p + 1) n) start (p - start)) none can_before);
-        })
+      both : Can es q × CanAll (one es q) (ahead old p (next_node old q))
+      both = turns.can_more es q (ahead old p (next_node old q)) (subst (CanAll es) (on).ahead goes.can)
 
-    inside : ((p + 1) == end) ≡ false → (p + 1 ≡ end → ⊥) → Hides (hidden es p) es p start end q
-    inside t h =
-        let here : q ≡ p + 1 = at_q ∙ (rw t refl) in
-        inl (record {
-          low = low;
-          above = omega arith;
-          below = (let k : (p + 1 ≡ end → ⊥) = h in omega arith);
-          rest = ap (λ k. run_hidden (run_hidden es k (end - k)) start (p - start)) here ∙ whole_is;
-          can = subst (λ k. CanHideRun es k (end - k)) (sym here) can_after;
-          next = subst (λ k. CanHideRun (run_hidden es k (end - k)) start (p - start)) (sym here) can_before;
-        })
+      pub goes_can : Can es q
+      goes_can = both.0
 
-module _ (whole es : List Entry) (p start end q : ℕ) (other : q ≡ p → ⊥) where
-  pub hides_can : Hides whole es p start end q → CanHideNode es q
-  hides_can (inl h) = (hide_run_step es q end h.below h.can).0
-  hides_can (inr h) = let l = h.high in (hide_run_step es q p (omega arith) h.can).0
+      module _ {fs : List Entry} (is : fs ≡ one es q) where
+        same : (x : ℕ) → next_bytes (entry_at fs x) ≡ next_bytes (entry_at old x)
+        same x = ap (λ gs. next_bytes (entry_at gs x)) is ∙ turns.same_link es q x ∙ goes.link x
 
-  module _ (new : List Entry) (to : ℕ) (one : new ≡ node_hidden es q) (at_to : to ≡ after_place q start end) where
-    goes_after : HidesAfter whole es p start end q → Hides whole new p start end to
-    goes_after h = by_equal (q + 1) end at_end inside
-      where
-        rest_is : run_hidden (run_hidden new (q + 1) (end - (q + 1))) start (p - start) ≡ whole
-        rest_is = ap (λ fs. run_hidden (run_hidden fs (q + 1) (end - (q + 1))) start (p - start)) one ∙ sym (ap (λ fs. run_hidden fs start (p - start)) (run_hidden_step es q end h.below)) ∙ h.rest
+        pub goes_low : q < length fs
+        goes_low = subst (λ n. q < n) (sym (ap length is ∙ turns.same_length es q)) (turns.here both.0)
 
-        can_rest : CanHideRun new (q + 1) (end - (q + 1))
-        can_rest = subst (λ fs. CanHideRun fs (q + 1) (end - (q + 1))) (sym one) (hide_run_step es q end h.below h.can).1
+        module _ {node : Entry} (read : node ≡ entry_at fs q) where
+          bytes : next_bytes node ≡ next_bytes (entry_at old q)
+          bytes = ap next_bytes read ∙ same q
 
-        can_next : CanHideRun (run_hidden new (q + 1) (end - (q + 1))) start (p - start)
-        can_next = subst (λ fs. CanHideRun fs start (p - start)) (run_hidden_step es q end h.below ∙ sym (ap (λ fs. run_hidden fs (q + 1) (end - (q + 1))) one)) h.next
+          pub goes_link : HasNext node
+          goes_link = subst (λ n. n / 16 * 16 ≡ n) (sym bytes) (on).link
 
-        at_end : ((q + 1) == end) ≡ true → q + 1 ≡ end → Hides whole new p start end to
-        at_end t e =
-            let here : to ≡ start = at_to ∙ (rw t refl) in
-            let none : end - (q + 1) ≡ 0 = omega arith in
-            let l = h.low in let a = h.above in
-            inr (record {
-              low = omega arith;
-              high = omega arith;
-              within = omega arith;
-              rest = ap (λ k. run_hidden new k (p - k)) here ∙ sym (ap (λ n. run_hidden (run_hidden new (q + 1) n) start (p - start)) none) ∙ rest_is;
-              can = subst (λ k. CanHideRun new k (p - k)) (sym here) (subst (λ n. CanHideRun (run_hidden new (q + 1) n) start (p - start)) none can_next);
-            })
+          pub goes_on : {to : ℕ} → to ≡ next_of node → Goes all CanAll whole old fs p to
+          goes_on {to} at =
+              let e : to ≡ next_node old q = at ∙ ap (λ n. n / 16) bytes in
+              record {
+                rest = (λ i. all (is i) (ahead old p (e i))) ∙ sym (turns.more es q (ahead old p (next_node old q))) ∙ sym (ap (all es) (on).ahead) ∙ goes.rest;
+                can = subst (λ (w : List Entry × ℕ). CanAll w.0 (ahead old p w.1)) (λ i. (sym is i, sym e i)) both.1;
+                leads = subst (λ x. LeadsTo old p x (length old)) (sym e) (on).leads;
+                link = same;
+              }
 
-        inside : ((q + 1) == end) ≡ false → (q + 1 ≡ end → ⊥) → Hides whole new p start end to
-        inside t e =
-            let here : to ≡ q + 1 = at_to ∙ (rw t refl) in
-            let a = h.above in let b = h.below in
-            inl (record {
-              low = h.low;
-              above = omega arith;
-              below = (let k : (q + 1 ≡ end → ⊥) = e in omega arith);
-              rest = ap (λ k. run_hidden (run_hidden new k (end - k)) start (p - start)) here ∙ rest_is;
-              can = subst (λ k. CanHideRun new k (end - k)) (sym here) can_rest;
-              next = subst (λ k. CanHideRun (run_hidden new k (end - k)) start (p - start)) (sym here) can_next;
-            })
+          pub goes_down : {to : ℕ} → to ≡ next_of node → turns_left old p to < turns_left old p q
+          goes_down {to} at = subst (λ x. turns_left old p x < turns_left old p q) (sym (at ∙ ap (λ n. n / 16) bytes)) (turns_fall old p q ne goes.leads)
 
-    goes_before : HidesBefore whole es p start end q → Hides whole new p start end to
-    goes_before h = by_equal (q + 1) end at_end inside
-      where
-        sooner : q < p
-        sooner = let l = h.high in let k : (q ≡ p → ⊥) = other in omega arith
+pub hide_begin : {es : List Entry} {p q : ℕ} → CanHide es p → q ≡ next_node es p → Goes nodes_hidden CanHideNodes (hidden es p) es es p q
+unfolding hidden
+hide_begin can e = goes_begin hiding can.round can.nodes e
 
-        at_end : ((q + 1) == end) ≡ true → q + 1 ≡ end → Hides whole new p start end to
-        at_end t e = let l = sooner in let w = h.within in absurd (omega arith)
-
-        inside : ((q + 1) == end) ≡ false → (q + 1 ≡ end → ⊥) → Hides whole new p start end to
-        inside t e =
-            let here : to ≡ q + 1 = at_to ∙ (rw t refl) in
-            let l = sooner in let s = h.low in
-            inr (record {
-              low = omega arith;
-              high = omega arith;
-              within = h.within;
-              rest = ap (λ k. run_hidden new k (p - k)) here ∙ ap (λ fs. run_hidden fs (q + 1) (p - (q + 1))) one ∙ sym (run_hidden_step es q p sooner) ∙ h.rest;
-              can = subst (λ k. CanHideRun new k (p - k)) (sym here) (subst (λ fs. CanHideRun fs (q + 1) (p - (q + 1))) (sym one) (hide_run_step es q p sooner h.can).1);
-            })
-
-    pub hides_on : Hides whole es p start end q → Hides whole new p start end to
-    hides_on (inl h) = goes_after h
-    hides_on (inr h) = goes_before h
-
--- ---- coming back
-
--- q comes before p: the nodes after q and before p are back
-pub record ShowsBefore (old es : List Entry) (p start end q : ℕ) : Type 0 where
-  pub low : start ≤ q
-  pub high : q < p
-  pub within : p < end
-  pub so_far : es ≡ run_unhidden old (suc q) (p - suc q)
-
--- q comes after p, or is p: all before p are back, and those after q
-pub record ShowsAfter (old es : List Entry) (p start end q : ℕ) : Type 0 where
-  pub begin : start ≤ p
-  pub low : p ≤ q
-  pub high : q < end
-  pub so_far : es ≡ run_unhidden (run_unhidden old start (p - start)) (suc q) (end - suc q)
-
-abbrev pub Shows : List Entry → List Entry → ℕ → ℕ → ℕ → ℕ → Type 0
-Shows old es p start end q = ShowsBefore old es p start end q ⊎ ShowsAfter old es p start end q
-
-abbrev pub turns_to_show : ℕ → ℕ → ℕ → ℕ → ℕ
-turns_to_show p start end q = cond (nat_lt q p) ((q - start) + (end - p)) (q - p)
-
--- at the last place nothing after it has come back
-at_last : (fs : List Entry) (end : ℕ) → 0 < end → fs ≡ run_unhidden fs (suc (end - 1)) (end - suc (end - 1))
-at_last fs end some = let none : end - suc (end - 1) ≡ 0 = omega arith in sym (ap (λ n. run_unhidden fs (suc (end - 1)) n) none)
-
-module _ (old es : List Entry) (p start end q : ℕ) (other : q ≡ p → ⊥) where
-  pub shows_can : CanUnhide old p → start ≡ option_start old p → end ≡ option_end old p → Shows old es p start end q → CanUnhideNode es q
-  unfolding before_unhidden
-  shows_can can s e (inl h) = subst (λ fs. CanUnhideNode fs q) (sym h.so_far) (can.before q (let l = h.low in omega arith) h.high)
-  shows_can can s e (inr h) =
-      let same : es ≡ run_unhidden (before_unhidden old p) (suc q) (option_end old p - suc q) = h.so_far ∙ (λ j. run_unhidden (run_unhidden old (s j) (p - s j)) (suc q) (e j - suc q)) in
-      let l = h.low in let k : (q ≡ p → ⊥) = other in
-      subst (λ fs. CanUnhideNode fs q) (sym same) (can.after q (omega arith) (let b = h.high in omega arith))
-
-  module _ (new : List Entry) (to : ℕ) (one : new ≡ node_unhidden es q) (at_to : to ≡ before_place q start end) where
-    back_before : ShowsBefore old es p start end q → Shows old new p start end to
-    back_before h = by_equal q start at_start inside
-      where
-        more : p - q ≡ suc (p - suc q)
-        more = let l = h.high in omega arith
-
-        now : new ≡ run_unhidden old q (p - q)
-        now = one ∙ ap (λ fs. node_unhidden fs q) h.so_far ∙ sym (ap (λ n. run_unhidden old q n) more)
-
-        at_start : (q == start) ≡ true → q ≡ start → Shows old new p start end to
-        at_start t e =
-            let here : to ≡ end - 1 = at_to ∙ (rw t refl) in
-            let l = h.high in let w = h.within in
-            inr (record {
-              begin = omega arith;
-              low = omega arith;
-              high = omega arith;
-              so_far = now ∙ ap (λ k. run_unhidden old k (p - k)) e ∙ at_last (run_unhidden old start (p - start)) end (omega arith)
-                  ∙ ap (λ k. run_unhidden (run_unhidden old start (p - start)) (suc k) (end - suc k)) (sym here);
-            })
-
-        inside : (q == start) ≡ false → (q ≡ start → ⊥) → Shows old new p start end to
-        inside t e =
-            let here : to ≡ q - 1 = at_to ∙ (rw t refl) in
-            let k : (q ≡ start → ⊥) = e in
-            let l = h.low in let m = h.high in
-            let back : q ≡ suc to = omega arith in
-            inl (record { low = omega arith; high = omega arith; within = h.within; so_far = now ∙ ap (λ k. run_unhidden old k (p - k)) back })
-
-    back_after : ShowsAfter old es p start end q → Shows old new p start end to
-    back_after h = by_equal q start at_start inside
-      where
-        later : p < q
-        later = let l = h.low in let k : (q ≡ p → ⊥) = other in omega arith
-
-        more : end - q ≡ suc (end - suc q)
-        more = let l = h.high in omega arith
-
-        now : new ≡ run_unhidden (run_unhidden old start (p - start)) q (end - q)
-        now = one ∙ ap (λ fs. node_unhidden fs q) h.so_far ∙ sym (ap (λ n. run_unhidden (run_unhidden old start (p - start)) q n) more)
-
-        at_start : (q == start) ≡ true → q ≡ start → Shows old new p start end to
-        at_start t e = let l = later in let b = h.begin in absurd (omega arith)
-
-        inside : (q == start) ≡ false → (q ≡ start → ⊥) → Shows old new p start end to
-        inside t e =
-            let here : to ≡ q - 1 = at_to ∙ (rw t refl) in
-            let l = later in let m = h.high in
-            let back : q ≡ suc to = omega arith in
-            inr (record { begin = h.begin; low = omega arith; high = omega arith; so_far = now ∙ ap (λ k. run_unhidden (run_unhidden old start (p - start)) k (end - k)) back })
-
-    pub shows_on : Shows old es p start end q → Shows old new p start end to
-    shows_on (inl h) = back_before h
-    shows_on (inr h) = back_after h
-
-pub shows_end : (old es : List Entry) (p start end q : ℕ) → q ≡ p → start ≡ option_start old p → end ≡ option_end old p → Shows old es p start end q → es ≡ unhidden old p
-unfolding unhidden before_unhidden
-shows_end old es p start end q e s f (inl h) = let l = h.high in absurd (omega arith)
-shows_end old es p start end q e s f (inr h) = h.so_far ∙ (λ j. run_unhidden (run_unhidden old (s j) (p - s j)) (suc (e j)) (f j - suc (e j)))
+pub unhide_begin : {es : List Entry} {p q : ℕ} → CanUnhide es p → q ≡ next_node es p → Goes nodes_unhidden CanUnhideNodes (unhidden es p) es es p q
+unfolding unhidden
+unhide_begin can e = goes_begin unhiding can.round can.nodes e

@@ -1,6 +1,6 @@
 -- The entries of the block, and an entry that leaves its list and comes back.
 -- TAOCP volume 4B, section 7.2.2.1, (1) and (2).
-use Rattle.std.specs.Prelude.{◌≡◌, ℕ, ◌+◌, ◌-◌, ◌<◌, List, length, get_or, set}
+use Rattle.std.specs.Prelude.{◌≡◌, ℕ, ◌+◌, ◌-◌, ◌*◌, ◌/◌, ◌%◌, ◌<◌, List, length, get_or, set}
 use Rattle.cover_links.specs.declared.entry.Entry.{Entry}
 
 -- an entry that names nothing
@@ -11,13 +11,28 @@ blank = record { top = 0; up = 0; down = 0; left = 0; right = 0 }
 abbrev pub entry_at : List Entry → ℕ → Entry
 entry_at es x = get_or es x blank
 
--- where the option of the node at x begins: so many entries before it as its `left` tells
-abbrev pub option_start : List Entry → ℕ → ℕ
-option_start es x = x - (entry_at es x).left
+-- the two halves of the bytes that n entries take
+abbrev pub low_half : ℕ → ℕ
+low_half n = n * 16 % 65536
 
--- where that option ends, at the spacer past it: so many entries after the node as its `right` tells
-abbrev pub option_end : List Entry → ℕ → ℕ
-option_end es x = x + (entry_at es x).right
+abbrev pub high_half : ℕ → ℕ
+high_half n = n * 16 / 65536
+
+-- the bytes before the next node of a node's option: `left` and `right` are the two halves
+abbrev pub next_bytes : Entry → ℕ
+next_bytes e = e.left + e.right * 65536
+
+-- so many entries stand before that node
+abbrev pub next_of : Entry → ℕ
+next_of e = next_bytes e / 16
+
+-- the bytes are those of a whole number of entries
+abbrev pub HasNext : Entry → Type 0
+HasNext e = next_of e * 16 ≡ next_bytes e
+
+-- the node after the one at x in its option
+abbrev pub next_node : List Entry → ℕ → ℕ
+next_node es x = next_of (entry_at es x)
 
 -- the entry at x is changed by f, and no other
 unfoldable pub changed : (Entry → Entry) → List Entry → ℕ → List Entry

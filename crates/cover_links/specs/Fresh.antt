@@ -4,9 +4,9 @@
 use Rattle.std.specs.Prelude.{ℕ, zero, suc, ◌+◌, ◌-◌, ◌==◌, nat_lt, cond, List, [], ◌∷◌, length, set, replicate}
 use Rattle.cover_problem.specs.Problem.{ProblemValue, option_at, size_of}
 use Rattle.cover_links.specs.declared.entry.Entry.{Entry}
-use Rattle.cover_links.specs.Entries.{blank, entry_at, changed, to_down}
+use Rattle.cover_links.specs.Entries.{blank, entry_at, low_half, high_half, changed, to_down}
 use Rattle.cover_links.specs.Hiding.{node_unhidden}
-use Rattle.cover_links.specs.Layout.{start_of}
+use Rattle.cover_links.specs.Layout.{start_of, place_after}
 
 -- the head of an item whose list is empty: a primary one has its neighbours in the row, another only itself
 abbrev pub empty_head : ℕ → ℕ → Entry
@@ -23,18 +23,18 @@ abbrev pub heads_written : List Entry → ℕ → ℕ → List Entry
 heads_written es primary zero = set es 0 (record { top = 0; up = 0; down = 0; left = primary; right = 1 })
 heads_written es primary (suc n) = set (heads_written es primary n) (suc n) (empty_head primary (suc n))
 
--- a node of the item i is written at x, past the last of i's list; its option stands from `start` up to the spacer at `end`
-abbrev pub node_written : List Entry → ℕ → ℕ → ℕ → ℕ → List Entry
-node_written es x i start end = set es x (record { top = i; up = (entry_at es i).up; down = i; left = x - start; right = end - x })
+-- a node of the item i is written at x, past the last of i's list; the next one of its option stands at `next`
+abbrev pub node_written : List Entry → ℕ → ℕ → ℕ → List Entry
+node_written es x i next = set es x (record { top = i; up = (entry_at es i).up; down = i; left = low_half next; right = high_half next })
 
 -- and comes into that list
-unfoldable pub node_appended : List Entry → ℕ → ℕ → ℕ → ℕ → List Entry
-node_appended es x i start end = node_unhidden (node_written es x i start end) x
+unfoldable pub node_appended : List Entry → ℕ → ℕ → ℕ → List Entry
+node_appended es x i next = node_unhidden (node_written es x i next) x
 
 -- nodes of these items are appended, from x on, to the option from `start` up to the spacer at `end`
 abbrev pub nodes_appended : List Entry → ℕ → ℕ → ℕ → List ℕ → List Entry
 nodes_appended es x start end [] = es
-nodes_appended es x start end (i ∷ items) = nodes_appended (node_appended es x i start end) (suc x) start end items
+nodes_appended es x start end (i ∷ items) = nodes_appended (node_appended es x i (place_after start end x)) (suc x) start end items
 
 -- an option is appended from the entry `start` on: its nodes, and the spacer past them
 unfoldable pub option_appended : List Entry → ℕ → List ℕ → ℕ → List Entry

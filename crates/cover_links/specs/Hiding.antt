@@ -1,8 +1,9 @@
 -- Hiding the other nodes of a node's option, covering an item, and the way back, as functions on the list of entries.
--- TAOCP volume 4B, section 7.2.2.1, (12) to (15).
-use Rattle.std.specs.Prelude.{ℕ, zero, suc, ◌-◌, List, [], ◌∷◌}
+-- TAOCP volume 4B, section 7.2.2.1, (12) to (15). There the way round an option goes over its spacer, and back the other way. Here each
+-- node leads to the next one, as a row does in "Dancing links" (Knuth, 2000).
+use Rattle.std.specs.Prelude.{ℕ, zero, suc, ◌==◌, cond, List, [], ◌∷◌, length}
 use Rattle.cover_links.specs.declared.entry.Entry.{Entry}
-use Rattle.cover_links.specs.Entries.{entry_at, option_start, option_end, changed, one_less, one_more, unlinked, relinked, item_unlinked, item_relinked}
+use Rattle.cover_links.specs.Entries.{entry_at, next_node, changed, one_less, one_more, unlinked, relinked, item_unlinked, item_relinked}
 
 -- a node leaves its list, which is one shorter
 unfoldable pub node_hidden : List Entry → ℕ → List Entry
@@ -12,31 +13,32 @@ node_hidden es q = changed one_less (unlinked es q) (entry_at es q).top
 unfoldable pub node_unhidden : List Entry → ℕ → List Entry
 node_unhidden es q = relinked (changed one_more es (entry_at es q).top) q
 
--- n nodes are hidden, from a on
-abbrev pub run_hidden : List Entry → ℕ → ℕ → List Entry
-run_hidden es a zero = es
-run_hidden es a (suc n) = run_hidden (node_hidden es a) (suc a) n
+-- the nodes of a list are hidden, one after the other
+abbrev pub nodes_hidden : List Entry → List ℕ → List Entry
+nodes_hidden es [] = es
+nodes_hidden es (q ∷ qs) = nodes_hidden (node_hidden es q) qs
 
--- they come back, the last one first
-abbrev pub run_unhidden : List Entry → ℕ → ℕ → List Entry
-run_unhidden es a zero = es
-run_unhidden es a (suc n) = node_unhidden (run_unhidden es (suc a) n) a
+-- the nodes of a list come back, one after the other
+abbrev pub nodes_unhidden : List Entry → List ℕ → List Entry
+nodes_unhidden es [] = es
+nodes_unhidden es (q ∷ qs) = nodes_unhidden (node_unhidden es q) qs
 
--- the nodes of p's option after p are hidden
-unfoldable pub after_hidden : List Entry → ℕ → List Entry
-after_hidden es p = run_hidden es (suc p) (option_end es p - suc p)
+-- where the link leads from q on until it comes to p, n times at most
+abbrev pub until : (ℕ → ℕ) → ℕ → ℕ → ℕ → List ℕ
+until link p q zero = []
+until link p q (suc n) = cond (q == p) [] (q ∷ until link p (link q) n)
 
--- then those before p
+-- the other nodes of p's option, from the one after p on, round it
+abbrev pub other_nodes : List Entry → ℕ → List ℕ
+other_nodes es p = until (next_node es) p (next_node es p) (length es)
+
+-- the other nodes of p's option are hidden
 unfoldable pub hidden : List Entry → ℕ → List Entry
-hidden es p = run_hidden (after_hidden es p) (option_start es p) (p - option_start es p)
+hidden es p = nodes_hidden es (other_nodes es p)
 
--- the nodes of p's option before p come back
-unfoldable pub before_unhidden : List Entry → ℕ → List Entry
-before_unhidden es p = run_unhidden es (option_start es p) (p - option_start es p)
-
--- then those after p
+-- they come back, in the same order: each stands in a list of its own, so that the order is free
 unfoldable pub unhidden : List Entry → ℕ → List Entry
-unhidden es p = run_unhidden (before_unhidden es p) (suc p) (option_end es p - suc p)
+unhidden es p = nodes_unhidden es (other_nodes es p)
 
 -- the options of n nodes are hidden, from p down
 abbrev pub list_hidden : List Entry → ℕ → ℕ → List Entry

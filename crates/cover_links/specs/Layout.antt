@@ -4,7 +4,7 @@
 --
 -- Example: in the small problem the nodes of the option 2, a d g, stand at 12 13 14, and the spacer after them at 15
 -- (computed in proofs/LinkExamples.antt).
-use Rattle.std.specs.Prelude.{ℕ, zero, suc, ◌+◌, ◌==◌, ◌≤◌, ◌≡◌, List, [], ◌∷◌, length, slice_index}
+use Rattle.std.specs.Prelude.{ℕ, zero, suc, ◌+◌, ◌==◌, ◌≤◌, ◌≡◌, List, [], ◌∷◌, length, slice_index, cond}
 use Rattle.std.specs.List.{before_first}
 use Rattle.cover_problem.specs.Problem.{ProblemValue, option_at}
 
@@ -35,3 +35,7 @@ node_index p j (suc k) = start_of p k + index_of j (option_at p (suc k))
 abbrev pub spacer_of : ProblemValue → ℕ → ℕ
 spacer_of p zero = suc (length p.names)
 spacer_of p (suc k) = start_of p k + length (option_at p (suc k))
+
+-- the place after x in an option that stands from `start` up to the spacer at `end`: after the last comes the first
+abbrev pub place_after : ℕ → ℕ → ℕ → ℕ
+place_after start end x = cond (x + 1 == end) start (x + 1)

@@ -1,10 +1,10 @@
 -- What the parts of a table of links are: the block of a problem and the covered items, and where each option begins.
-use Rattle.std.specs.Prelude.{◌≡◌, ℕ, suc, ◌<◌, ◌≤◌, ◌^◌, ◌⊎◌, ◌==◌, nat_lt, ◌&&◌, cond, pos, ◌-ℤ◌, Option, Some, None, List, length, get_or}
+use Rattle.std.specs.Prelude.{◌≡◌, ℕ, suc, ◌<◌, ◌≤◌, ◌^◌, ◌⊎◌, ◌==◌, nat_lt, ◌&&◌, Bool, true, false, cond, pos, ◌-ℤ◌, Option, Some, None, List, length, get_or}
 use Rattle.cover_problem.specs.Problem.{ProblemValue, IsProblem}
 use Rattle.cover_problem.specs.Table.{IsCoveredList}
 use Rattle.cover_links.specs.declared.entry.Entry.{Entry}
 use Rattle.cover_links.specs.declared.entry.Node.{Node}
-use Rattle.cover_links.specs.Entries.{entry_at, option_end}
+use Rattle.cover_links.specs.Entries.{entry_at, next_bytes}
 use Rattle.cover_links.specs.Layout.{start_of}
 use Rattle.cover_links.specs.StandsFor.{block_of}
 
@@ -22,23 +22,29 @@ pub record IsTable (p : ProblemValue) (c : List ℕ) (items : ℕ) (block : List
 abbrev pub nonzero : ℕ → Option ℕ
 nonzero n = cond (n == 0) None (Some n)
 
--- an entry as the literature prints it: past the heads an entry with no end of an option is a spacer
+-- past the heads an entry that leads to no next node is a spacer
+abbrev pub is_spacer : Entry → Bool
+is_spacer e = next_bytes e == 0
+
+-- an entry as the literature prints it
 abbrev pub printed_node : ℕ → ℕ → Entry → Node
 printed_node items x e = record {
-  top_or_len = cond (nat_lt items x && (e.right == 0)) (pos 0 -ℤ pos e.top) (pos e.top);
+  top_or_len = cond (nat_lt items x && is_spacer e) (pos 0 -ℤ pos e.top) (pos e.top);
   up = e.up;
   down = e.down;
 }
 
--- a node of an option's, with that option's number at the spacer past it
-pub record IsNodeOf (es : List Entry) (item node k : ℕ) : Type 0 where
+-- a node of the option numbered k, which has its number at the spacer past it
+pub record IsNodeOf (es : List Entry) (item node spacer k : ℕ) : Type 0 where
   pub apart : node ≡ item → ⊥
-  pub here : node < length es
-  pub end : option_end es node < length es
-  pub word : option_end es node < 2 ^ 32
-  pub number : (entry_at es (option_end es node)).top ≡ k
+  pub past : node < spacer
+  pub within : spacer < length es
+  pub word : spacer < 2 ^ 32
+  pub nodes : (x : ℕ) → node ≤ x → x < spacer → is_spacer (entry_at es x) ≡ false
+  pub end : is_spacer (entry_at es spacer) ≡ true
+  pub number : (entry_at es spacer).top ≡ k
   pub some : 0 < k
 
 -- the item's head, where k is 0, or a node of the option numbered k
 abbrev pub IsHeadOrNode : List Entry → ℕ → ℕ → ℕ → Type 0
-IsHeadOrNode es item node k = ((node ≡ item) × (k ≡ 0)) ⊎ IsNodeOf es item node k
+IsHeadOrNode es item node k = ((node ≡ item) × (k ≡ 0)) ⊎ ((spacer : ℕ) × IsNodeOf es item node spacer k)

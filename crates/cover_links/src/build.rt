@@ -3,6 +3,7 @@ ghost use Rattle.std.specs.Prelude.{◌≡◌, ◌<◌, ◌≤◌, ◌+◌, ◌-
 ghost use Rattle.cover_problem.specs.Answers.{Returns};
 ghost use Rattle.cover_links.specs.Fresh as list;
 ghost use Rattle.cover_links.specs.Fresh.{node_appended, option_appended, heads_written};
+ghost use Rattle.cover_links.specs.Layout as layout;
 ghost use Rattle.cover_links.specs.Layout.{AreStarts};
 ghost use Rattle.cover_links.specs.Safety.{CanAppendNode, CanAppendOption};
 
@@ -69,10 +70,18 @@ fn write_heads(block: &mut Block, items: u32, primary: u32)
     }
 }
 
-/// Appends a node of the option from `start` up to the spacer at `end` to the list of its item.
-fn append_node(block: &mut Block, index: u32, item: u32, start: u32, end: u32)
-    requires { CanAppendNode block.old index item start end }
-    ensures { block.new ≡ node_appended block.old index item start end }
+/// The place after one in an option, whose nodes stand from `start` up to `end`: after the last comes the first.
+fn place_after(index: u32, start: u32, end: u32) -> u32
+    requires { index < end }
+    ensures { result ≡ layout.place_after start end index }
+{
+    if index + 1 == end { start } else { index + 1 }
+}
+
+/// Appends a node to the list of its item; the next one of its option stands at `next`.
+fn append_node(block: &mut Block, index: u32, item: u32, next: u32)
+    requires { CanAppendNode block.old index item next }
+    ensures { block.new ≡ node_appended block.old index item next }
 {
     let head = Offset::at(item);
     let up = block.read(item).up;
@@ -83,9 +92,9 @@ fn append_node(block: &mut Block, index: u32, item: u32, start: u32, end: u32)
             top: head,
             up,
             down: head,
-            // Both fit in 16 bits: an option has each item once at most.
-            left: (index - start) as u16,
-            right: (end - index) as u16,
+            // An entry takes 16 bytes.
+            left: (next * 16 % 65536) as u16,
+            right: (next * 16 / 65536) as u16,
         },
     );
     append_to_list(block, Offset::at(index));
@@ -100,7 +109,7 @@ fn append_option(block: &mut Block, start: u32, option: &[u32], number: u32)
     let end = start + option.len() as u32;
     let mut index = start;
     for item in option {
-        append_node(block, index, *item, start, end);
+        append_node(block, index, *item, place_after(index, start, end));
         index += 1;
     }
     // The other fields of this spacer belong to the option before it, and stay.
@@ -115,7 +124,7 @@ fn append_option(block: &mut Block, start: u32, option: &[u32], number: u32)
     block.write(
         end,
         Entry {
-            // The literature negates the number, by which it tells a spacer from a node. Here the counts of a node lead to the spacer.
+            // The literature negates the number, by which it tells a spacer from a node. Here a spacer leads to no next node.
             top: Offset::at(number),
             up: Offset::at(start),
             ..Entry::blank()

@@ -1,5 +1,5 @@
 //! What stands at one place of the block, and what a reader sees of it.
-ghost use Rattle.std.specs.Prelude.{◌≡◌, ◌<◌, ◌≤◌, ◌+◌, ◌-◌, ◌*◌, ◌^◌, true, false};
+ghost use Rattle.std.specs.Prelude.{◌≡◌, ◌<◌, ◌≤◌, ◌+◌, ◌-◌, ◌*◌, ◌/◌, ◌^◌, true, false};
 
 use std::marker::Model;
 
@@ -51,6 +51,18 @@ impl Offset {
         self.bytes as usize
     }
 
+    /// The number whose bytes have these two halves.
+    #[inline(always)]
+    pub(crate) fn of_halves(low: u16, high: u16) -> Offset
+        requires { (low + high * 65536) / 16 * 16 ≡ low + high * 65536 }
+        ensures { result ≡ (low + high * 65536) / 16 }
+    {
+        // Where the halves stand side by side, a compiler reads both at once.
+        Offset {
+            bytes: low as u32 + high as u32 * 65536,
+        }
+    }
+
     /// So many more.
     #[inline(always)]
     pub fn plus(self, count: u32) -> Offset
@@ -84,7 +96,7 @@ impl Offset {
 }
 
 /// An entry of the block: the header, an item's head, a node, or a spacer. Its numbers up to 2^28 are offsets, and those up to 2^16
-/// are counts of entries.
+/// are items, or halves of an offset.
 // Sixteen bytes: four stand in a line of the processor's cache.
 #[derive(Clone, Copy)]
 pub struct Entry {
@@ -95,10 +107,10 @@ pub struct Entry {
     pub up: Offset,
     /// The entry below it in its list; of a spacer the last node of the option after it, or 0.
     pub down: Offset,
-    // Numbers of items and counts of nodes fit in 16 bits; with 32, an entry would take 20 bytes.
-    /// Of the header and a head the active item before it, of a node the number of nodes before it in its option.
+    // Numbers of items fit in 16 bits; with 32, an entry would take 20 bytes.
+    /// Of the header and a head the active item before it; of a node the low half of the bytes before the next node of its option.
     pub left: u16,
-    /// Of the header and a head the active item after it, of a node the number of entries from it to the spacer past its option.
+    /// Of the header and a head the active item after it; of a node the high half of those bytes.
     pub right: u16,
 }
 

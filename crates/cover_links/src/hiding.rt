@@ -1,7 +1,8 @@
 //! Taking entries out of their lists and putting them back, and the covering of an item made of it.
 //! (TAOCP volume 4B, section 7.2.2.1, (1), (2) and (12) to (15).)
 ghost use Rattle.std.specs.Prelude.{◌≡◌, ◌<◌, ◌≤◌, ◌+◌, ◌-◌, ◌^◌, ◌==◌, if◌then◌else◌};
-ghost use Rattle.cover_links.specs.Entries.{unlinked, relinked, item_unlinked, item_relinked};
+ghost use Rattle.cover_links.specs.Entries.{unlinked, relinked, item_unlinked, item_relinked, HasNext};
+ghost use Rattle.cover_links.specs.Entries as entries;
 ghost use Rattle.cover_links.specs.Hiding.{node_hidden, node_unhidden, hidden, unhidden, item_covered, item_uncovered};
 ghost use Rattle.cover_links.specs.Safety.{IsInside, IsItemInside, CanHideNode, CanUnhideNode, CanHide, CanUnhide, CanCoverItem, CanUncoverItem};
 
@@ -143,33 +144,16 @@ fn unhide_node(row: &mut Row, base: Base, index: Offset)
     relink(row, base, index);
 }
 
-/// The place after one in an option, whose nodes stand from `start` up to `end`: after the last comes the first.
+/// The next node of a node's option, by which no spacer is read. (Formula (13) steps onto the spacer, and goes back by its link.)
 #[inline(always)]
-fn place_after(place: Offset, start: Offset, end: Offset) -> Offset
-    requires within { place < end }
-    requires word { end < 2 ^ 28 }
-    ensures { result ≡ (if place + 1 == end then start else place + 1) }
+fn next_of(node: Entry) -> Offset
+    requires { HasNext node }
+    ensures { result ≡ entries.next_of node }
 {
-    let next = place.plus(1);
-    if next.is(end) { start } else { next }
+    Offset::of_halves(node.left, node.right)
 }
 
-/// The place before one: before the first comes the last.
-#[inline(always)]
-fn place_before(place: Offset, start: Offset, end: Offset) -> Offset
-    requires within { start ≤ place }
-    requires some { start < end }
-    ensures { result ≡ (if place == start then end - 1 else place - 1) }
-{
-    if place.is(start) {
-        end.minus(1)
-    } else {
-        place.minus(1)
-    }
-}
-
-/// Hides the other nodes of a node's option: those after it, then those before it. One loop goes round the option, so that its
-/// number of turns is the option's length less one, which the processor foresees.
+/// Hides the other nodes of a node's option, from the one after it on, round the option.
 #[inline(always)]
 fn hide(row: &mut Row, base: Base, index: Offset)
     requires place { base.ptr ≡ row.old.place.at }
@@ -177,19 +161,16 @@ fn hide(row: &mut Row, base: Base, index: Offset)
     ensures place { row.new.place ≡ row.old.place }
     ensures entries { row.new.entries ≡ hidden row.old.entries index }
 {
-    // The counts stand at the node itself, so no spacer is read. (Formula (13) steps onto the spacer, and goes back by its link.)
-    let Entry { left, right, .. } = row.read(base, index);
-    let start = index.minus(left as u32);
-    let end = index.plus(right as u32);
     // The node itself stays in its list: the item of that list is being covered, and the list is walked.
-    let mut node = place_after(index, start, end);
+    let mut node = next_of(row.read(base, index));
     while !node.is(index) {
         hide_node(row, base, node);
-        node = place_after(node, start, end);
+        node = next_of(row.read(base, node));
     }
 }
 
-/// Puts them back, in the reverse order.
+/// Puts them back, in the same order. (Formula (15) takes the reverse one, but each node stands in a list of its own, so that any
+/// order does.)
 #[inline(always)]
 fn unhide(row: &mut Row, base: Base, index: Offset)
     requires place { base.ptr ≡ row.old.place.at }
@@ -197,13 +178,10 @@ fn unhide(row: &mut Row, base: Base, index: Offset)
     ensures place { row.new.place ≡ row.old.place }
     ensures entries { row.new.entries ≡ unhidden row.old.entries index }
 {
-    let Entry { left, right, .. } = row.read(base, index);
-    let start = index.minus(left as u32);
-    let end = index.plus(right as u32);
-    let mut node = place_before(index, start, end);
+    let mut node = next_of(row.read(base, index));
     while !node.is(index) {
         unhide_node(row, base, node);
-        node = place_before(node, start, end);
+        node = next_of(row.read(base, node));
     }
 }
 
@@ -214,10 +192,9 @@ fn cover_in(row: &mut Row, base: Base, item: Offset)
     ensures place { row.new.place ≡ row.old.place }
     ensures entries { row.new.entries ≡ item_covered row.old.entries item }
 {
-    let head = row.read(base, item);
-    // Hiding doesn't touch the item's own list, so its length tells how many turns there are.
-    let mut node = head.down;
-    for _turn in 0..head.top.index() {
+    // Hiding doesn't touch the item's own list, which leads back to its head.
+    let mut node = row.read(base, item).down;
+    while !node.is(item) {
         hide(row, base, node);
         node = row.read(base, node).down;
     }
@@ -233,10 +210,9 @@ fn uncover_in(row: &mut Row, base: Base, item: Offset)
 {
     // The last step of `cover_in` is undone first.
     relink_item(row, base, item);
-    let head = row.read(base, item);
     // From the last node up: links work only when they come back in the reverse order (formulas (14) and (15)).
-    let mut node = head.up;
-    for _turn in 0..head.top.index() {
+    let mut node = row.read(base, item).up;
+    while !node.is(item) {
         unhide(row, base, node);
         node = row.read(base, node).up;
     }

@@ -11,7 +11,7 @@ ghost use Rattle.cover_links.specs.Table as table;
 
 use crate::block::Block;
 use crate::build::{fresh, starts};
-use crate::entry::Node;
+use crate::entry::{Entry, Node};
 use crate::hiding::{cover_item, uncover_item};
 use cover_problem::{Problem, Table};
 use std::alloc::{AllocError, Global};
@@ -52,6 +52,14 @@ fn nonzero(item: u32) -> Option<u32>
     if item == 0 { None } else { Some(item) }
 }
 
+/// Whether an entry past the heads is a spacer: it leads to no next node.
+#[inline(always)]
+fn is_spacer(entry: Entry) -> bool
+    ensures { result ≡ table.is_spacer entry }
+{
+    entry.left as u32 + entry.right as u32 * 65536 == 0
+}
+
 /// The number of the option of an item's node, or none at the item's head.
 #[inline(always)]
 fn option_at(block: &Block, item: u32, node: u32) -> Option<u32>
@@ -62,8 +70,11 @@ fn option_at(block: &Block, item: u32, node: u32) -> Option<u32>
     if node == item {
         return None;
     }
-    // Past the option stands its spacer, which has the number: a node has no room for it.
-    let spacer = node + block.read(node).right as u32;
+    // Past the option stands its spacer, which has the number: a node has no room for it. An option has few nodes.
+    let mut spacer = node + 1;
+    while !is_spacer(block.read(spacer)) {
+        spacer += 1;
+    }
     Some(block.read(spacer).top.index())
 }
 
@@ -77,7 +88,7 @@ impl LinkTable {
     {
         let entry = self.block.read(x);
         // Past the heads only a spacer has nothing after it in its option.
-        let is_spacer = x > self.items && entry.right == 0;
+        let is_spacer = x > self.items && is_spacer(entry);
         let top = entry.top.index() as i64;
         Node {
             top_or_len: if is_spacer { 0 - top } else { top },

@@ -1,7 +1,8 @@
 use Rattle.std.proofs.Common.{◌≡◌, ℕ, suc, ◌+◌, ◌-◌, [], ◌∷◌, length, get_or, set, drop, sym, ap, ◌∙◌, subst, arith, List}
 use Rattle.cover_links.specs.declared.entry.Entry.{Entry}
 use Rattle.cover_links.specs.Entries.{changed, to_down}
-use Rattle.cover_links.specs.Fresh.{nodes_appended, option_appended}
+use Rattle.cover_links.specs.Fresh.{node_appended, nodes_appended, option_appended}
+use Rattle.cover_links.specs.Layout.{place_after}
 use Rattle.cover_links.specs.Safety.{CanAppendNodes}
 use Rattle.cover_links.proofs.EntryLemmas.{written}
 use Rattle.std.proofs.lemmas.List.{drop_all}
@@ -16,12 +17,13 @@ loop-item-preserved c =
     let second : suc i ≡ i + 1 = omega arith in
     let cut : drop i o ≡ get_or o i 0 ∷ drop (i + 1) o = drop-cons o i 0 c.loop-item-test.true ∙ ap (λ k. get_or o i 0 ∷ drop k o) second in
     let next : suc x ≡ x + 1 = omega arith in
+    let new = c.append_node.ensures ∙ ap (node_appended es x (get_or o i 0)) c.place_after.ensures in
     let can : CanAppendNodes es x l r (get_or o i 0 ∷ drop (i + 1) o) = subst (λ js. CanAppendNodes es x l r js) cut s.can in
     record {
-      rest = (λ j. nodes_appended (c.append_node.ensures j) (sym next j) l r (drop (i + 1) o)) ∙ sym (ap (λ js. nodes_appended es x l r js) cut) ∙ s.rest;
-      can = subst (λ (w : List Entry × ℕ). CanAppendNodes w.0 w.1 l r (drop (i + 1) o)) (λ j. (sym c.append_node.ensures j, next j)) can.1;
+      rest = (λ j. nodes_appended (new j) (sym next j) l r (drop (i + 1) o)) ∙ sym (ap (λ js. nodes_appended es x l r js) cut) ∙ s.rest;
+      can = subst (λ (w : List Entry × ℕ). CanAppendNodes w.0 w.1 l r (drop (i + 1) o)) (λ j. (sym new j, next j)) can.1;
       place = (let p = s.place in omega arith);
-      size = ap length c.append_node.ensures ∙ length-node_appended es x (get_or o i 0) l r ∙ s.size;
+      size = ap length new ∙ length-node_appended es x (get_or o i 0) (place_after l r x) ∙ s.size;
     }
 
 pub returns : goal.returns

@@ -1,16 +1,34 @@
-use Rattle.std.proofs.Common.{◌+◌, ◌-◌, ◌∙◌, ap}
-use Rattle.cover_links.specs.declared.entry.Entry.{Entry}
-use Rattle.cover_links.proofs.TurnLemmas.{shows_can, shows_on, shows_end}
+use Rattle.std.proofs.Common.{◌∙◌, ap, refl, subst, sym}
+use Rattle.cover_links.specs.Entries.{next_of, HasNext}
+use Rattle.cover_links.proofs.TurnLemmas.{unhiding, unhide_begin, goes_end, goes_can, goes_low, goes_link, goes_on, goes_down}
 use Rattle.cover_links.proofs.hiding.unhide.Goals as goal
 
+pub read-requires-clause-within : goal.read-requires-clause-within
+read-requires-clause-within c = c.requires.can.round.here
+
+pub next_of-node-requires : goal.next_of-node-requires
+next_of-node-requires c = subst HasNext (sym c.read.ensures) c.requires.can.round.link
+
+pub loop-base-init : goal.loop-base-init
+loop-base-init c = record { place = refl; goes = unhide_begin c.requires.can (c.next_of-node.ensures ∙ ap next_of c.read.ensures) }
+
 pub unhide_node-requires-clause-can : goal.unhide_node-requires-clause-can
-unhide_node-requires-clause-can c = shows_can _ _ _ _ _ _ (c.is.ensures.apart c.loop-base-test.true) c.requires.can (c.minus-start.ensures ∙ ap (λ (e : Entry). c.args.index - e.left) c.read-left.ensures) (c.plus-end.ensures ∙ ap (λ (e : Entry). c.args.index + e.right) c.read-left.ensures) c.loop-base.invariant.turns
+unhide_node-requires-clause-can c = goes_can unhiding c.loop-base.invariant.goes (c.is.ensures.apart c.loop-base-test.true)
+
+pub read-requires-in-loop-base-clause-within : goal.read-requires-in-loop-base-clause-within
+read-requires-in-loop-base-clause-within c = goes_low unhiding c.loop-base.invariant.goes (c.is.ensures.apart c.loop-base-test.true) c.unhide_node.ensures.entries
+
+pub next_of-node-requires-in-loop-base : goal.next_of-node-requires-in-loop-base
+next_of-node-requires-in-loop-base c = goes_link unhiding c.loop-base.invariant.goes (c.is.ensures.apart c.loop-base-test.true) c.unhide_node.ensures.entries c.read-in-loop-base.ensures
 
 pub loop-base-preserved : goal.loop-base-preserved
 loop-base-preserved c = record {
   place = c.unhide_node.ensures.place ∙ c.loop-base.invariant.place;
-  turns = shows_on _ _ _ _ _ _ (c.is.ensures.apart c.loop-base-test.true) _ _ c.unhide_node.ensures.entries c.place_before-node-in-loop-base.ensures c.loop-base.invariant.turns;
+  goes = goes_on unhiding c.loop-base.invariant.goes (c.is.ensures.apart c.loop-base-test.true) c.unhide_node.ensures.entries c.read-in-loop-base.ensures c.next_of-node-in-loop-base.ensures;
 }
 
+pub loop-base-smaller : goal.loop-base-smaller
+loop-base-smaller c = goes_down unhiding c.loop-base.invariant.goes (c.is.ensures.apart c.loop-base-test.true) c.unhide_node.ensures.entries c.read-in-loop-base.ensures c.next_of-node-in-loop-base.ensures
+
 pub returns-clause-entries : goal.returns-clause-entries
-returns-clause-entries c = shows_end _ _ _ _ _ _ (c.is.ensures.same c.loop-base-test.false) (c.minus-start.ensures ∙ ap (λ (e : Entry). c.args.index - e.left) c.read-left.ensures) (c.plus-end.ensures ∙ ap (λ (e : Entry). c.args.index + e.right) c.read-left.ensures) c.loop-base.invariant.turns
+returns-clause-entries c = goes_end unhiding c.loop-base.invariant.goes (c.is.ensures.same c.loop-base-test.false)

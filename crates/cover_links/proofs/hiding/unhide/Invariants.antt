@@ -1,12 +1,14 @@
 use Rattle.std.proofs.Common.{◌≡◌}
-use Rattle.cover_links.proofs.TurnLemmas.{Shows, turns_to_show}
+use Rattle.cover_links.specs.Hiding.{nodes_unhidden, unhidden}
+use Rattle.cover_links.specs.Safety.{CanUnhideNodes}
+use Rattle.cover_links.proofs.TurnLemmas.{Goes, turns_left}
 use Rattle.cover_links.proofs.hiding.unhide.Given as goal
 
 abbrev pub invariant-loop-base : goal.invariant-loop-base
 invariant-loop-base l = record {
   place : l.row.place ≡ l.initial.row.place;
-  turns : Shows l.initial.row.entries l.row.entries l.index l.start l.end l.node;
+  goes : Goes nodes_unhidden CanUnhideNodes (unhidden l.initial.row.entries l.index) l.initial.row.entries l.row.entries l.index l.node;
 }
 
 abbrev pub decreases-loop-base : goal.decreases-loop-base
-decreases-loop-base l = turns_to_show l.index l.start l.end l.node
+decreases-loop-base l = turns_left l.initial.row.entries l.index l.node

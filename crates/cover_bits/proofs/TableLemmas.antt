@@ -2,7 +2,7 @@
 use Rattle.std.proofs.Common.{◌≡◌, ℕ, suc, ◌+◌, ◌-◌, ◌*◌, ◌/◌, ◌%◌, min, ◌<◌, ◌≤◌, ◌⊎◌, ◌==◌, Bool, true, false, not, cond, ◌&&◌, List, [], ◌∷◌, length, get_or, take, drop, set, refl, sym, ap, ap₂, subst, ◌∙◌, inl, inr, arith, le_refl, length-take-le, length-drop, All}
 use Rattle.std.specs.List.{before_first}
 use Rattle.std.proofs.lemmas.Bool.{cases_lt, lt-ltb, le-ltb, and_left, and_right}
-use Rattle.std.proofs.lemmas.List.{get_or-take, get_or-drop, get_or_past, length-map}
+use Rattle.std.proofs.lemmas.List.{get_or-take, get_or-drop, get_or_past, length-map, take_all}
 use Rattle.std.proofs.lemmas.List.Elements.{All-from_get_or}
 use Rattle.std.proofs.lemmas.List.Sums.{prefix_len-le-length}
 use Rattle.std.specs.Prelude.{Option, None, option_map, IfSome}
@@ -19,7 +19,7 @@ use Rattle.cover_problem.proofs.PartLemmas.{before_none}
 use Rattle.cover_problem.proofs.RemainingLemmas.{list_rises}
 use Rattle.cover_problem.proofs.TimeLemmas.{place}
 use Rattle.cover_bits.specs.declared.sets.Part.{Part}
-use Rattle.cover_bits.specs.Parts.{in_word, in_row, in_both, ArePlaced, ones_of_both, IsFirstFrom, NoneFrom}
+use Rattle.cover_bits.specs.Parts.{words_for, in_word, in_row, in_both, ArePlaced, ones_of_both, IsFirstFrom, NoneFrom}
 use Rattle.cover_bits.specs.Bits.{row_at, set_at, is_left, AreLeft, IsBits, IsListOf}
 use Rattle.cover_bits.proofs.PartLemmas.{has_no_bit, placed_at}
 use Rattle.cover_bits.proofs.CountLemmas.{count_of, count_split, count_none, count_moved, count_is}
@@ -87,10 +87,8 @@ module _ {p : ProblemValue} {options primary words : ℕ} {columns : List ℕ} {
           let m : length (take (place c j) c) ≡ place c j = length-take-le (place c j) c l in
           (omega arith, omega arith)
 
-  module _ (j depth : ℕ) (a : 0 < j) (b : j ≤ length p.names) (at : depth ≡ place c j) (deep : depth ≤ length c) where
-    left : AreLeft p (before_first (λ x. x == j) c) words (set_at words parts counts depth)
-    left = subst (λ d. AreLeft p (take d c) words (set_at words parts counts depth)) at (h.sets_are depth deep)
-
+  -- the parts are those left before the item was covered
+  module _ (j : ℕ) (a : 0 < j) (b : j ≤ length p.names) (set : List Part) (left : AreLeft p (before_first (λ x. x == j) c) words set) where
     fits : (j - 1) * words + words ≤ length columns
     fits = column_fits (j - 1) (omega arith)
 
@@ -100,11 +98,11 @@ module _ {p : ProblemValue} {options primary words : ℕ} {columns : List ℕ} {
     past : (k : ℕ) → length p.options ≤ k → is_left p (before_first (λ x. x == j) c) k ≡ false
     past k l = and_left _ _ (le-ltb k (length p.options) l)
 
-    both_are : (k : ℕ) → in_both (set_at words parts counts depth) (row_at words (j - 1) columns) k ≡ has (list_of p c j) (k + 1)
+    both_are : (k : ℕ) → in_both set (row_at words (j - 1) columns) k ≡ has (list_of p c j) (k + 1)
     unfolding list_of
     both_are k = by (cases_lt k (64 * words))
       where
-        by : (k < 64 * words) ⊎ (64 * words ≤ k) → in_both (set_at words parts counts depth) (row_at words (j - 1) columns) k ≡ has (remaining p (before_first (λ x. x == j) c) j) (k + 1)
+        by : (k < 64 * words) ⊎ (64 * words ≤ k) → in_both set (row_at words (j - 1) columns) k ≡ has (remaining p (before_first (λ x. x == j) c) j) (k + 1)
         by (inl l) =
             let e : j - 1 + 1 ≡ j = omega arith in
             ap₂ (λ x y. x && y) (left.are k) (in_row_at columns words (j - 1) fits k l ∙ h.columns_are (j - 1) k (omega arith) l ∙ ap (has (option_at p (k + 1))) e)
@@ -114,35 +112,35 @@ module _ {p : ProblemValue} {options primary words : ℕ} {columns : List ℕ} {
             and_right _ _ (past_row columns words (j - 1) fits k l)
             ∙ sym (has_remaining p (before_first (λ x. x == j) c) j k ∙ and_left _ _ (past k (omega arith)))
 
-    placed : ArePlaced 0 (length (row_at words (j - 1) columns)) (set_at words parts counts depth)
-    placed = subst (λ w. ArePlaced 0 w (set_at words parts counts depth)) (sym long) left.placed
+    placed : ArePlaced 0 (length (row_at words (j - 1) columns)) set
+    placed = subst (λ w. ArePlaced 0 w set) (sym long) left.placed
 
-    count : ones_of_both (set_at words parts counts depth) (row_at words (j - 1) columns) ≡ length (list_of p c j)
+    count : ones_of_both set (row_at words (j - 1) columns) ≡ length (list_of p c j)
     unfolding list_of remaining
     count =
         let d : List ℕ = before_first (λ x. x == j) c in
         let m : ℕ = length p.options in
         let most = few_words.0 in
         let test : ℕ → Bool = λ k. is_remaining d j (get_or p.options (k - 1) []) in
-        let all = count_is 0 words (set_at words parts counts depth) (row_at words (j - 1) columns) left.placed (omega arith) in
+        let all = count_is 0 words set (row_at words (j - 1) columns) left.placed (omega arith) in
         let n : 64 * (words - 0) ≡ m + (64 * words - m) = omega arith in
-        let parted = count_split (in_both (set_at words parts counts depth) (row_at words (j - 1) columns)) (64 * (words - 0)) m (64 * words - m) (64 * 0) n in
-        let rest : count_of (in_both (set_at words parts counts depth) (row_at words (j - 1) columns)) (64 * words - m) (64 * 0 + m) ≡ 0 =
-        count_none (in_both (set_at words parts counts depth) (row_at words (j - 1) columns)) (64 * words - m) (64 * 0 + m)
+        let parted = count_split (in_both set (row_at words (j - 1) columns)) (64 * (words - 0)) m (64 * words - m) (64 * 0) n in
+        let rest : count_of (in_both set (row_at words (j - 1) columns)) (64 * words - m) (64 * 0 + m) ≡ 0 =
+        count_none (in_both set (row_at words (j - 1) columns)) (64 * words - m) (64 * 0 + m)
         (λ x l u. both_are x ∙ has_remaining p d j x ∙ and_left _ _ (past x (omega arith))) in
-        let here : count_of (in_both (set_at words parts counts depth) (row_at words (j - 1) columns)) m (64 * 0) ≡ count_of test m 1 =
-        count_moved (in_both (set_at words parts counts depth) (row_at words (j - 1) columns)) test m (64 * 0) 1
+        let here : count_of (in_both set (row_at words (j - 1) columns)) m (64 * 0) ≡ count_of test m 1 =
+        count_moved (in_both set (row_at words (j - 1) columns)) test m (64 * 0) 1
         (λ i l. let z : 64 * 0 + i ≡ i = omega arith in let q : 1 + i ≡ i + 1 = omega arith in
         rw (z, q) (both_are i ∙ has_filter_numbers test m i ∙ ap (λ u. u && test (i + 1)) (lt-ltb i m l))) in
         omega arith
 
-    pub list_is : IsListOf (list_of p c j) (set_at words parts counts depth) (row_at words (j - 1) columns)
+    pub list_is : IsListOf (list_of p c j) set (row_at words (j - 1) columns)
     list_is = record {
       rises = list_rises p c j;
       placed = placed;
-      within = All-from_get_or (λ part. part.place < length (row_at words (j - 1) columns)) (set_at words parts counts depth) (record { word = 0; place = 0 })
-          (λ i l. (placed_at 0 (length (row_at words (j - 1) columns)) (set_at words parts counts depth) placed i (record { word = 0; place = 0 }) l).0);
-      few = let s = placed_short 0 words (set_at words parts counts depth) left.placed (omega arith) in let e = long in omega arith;
+      within = All-from_get_or (λ part. part.place < length (row_at words (j - 1) columns)) set (record { word = 0; place = 0 })
+          (λ i l. (placed_at 0 (length (row_at words (j - 1) columns)) set placed i (record { word = 0; place = 0 }) l).0);
+      few = let s = placed_short 0 words set left.placed (omega arith) in let e = long in omega arith;
       small = let w = few_words.1 in let e = long in omega arith;
       count = count;
       are = both_are;
@@ -160,7 +158,22 @@ told {o} {pr} {w} {cols} {ps} {ns} {act} {ts} {never} {room} {s} {t} e h late j 
     let k = bits_at e h in
     let f = ap (λ u. length u.covered) e in
     let q = depth_is k late j depth time a b m (let g = d in omega arith) in
-    rw (x, y) (list_is k j depth a b q.0 q.1)
+    rw (x, y) (list_is k j a b (set_at w ps ns depth) (subst (λ d. AreLeft t.problem (take d t.covered) w (set_at w ps ns depth)) q.0 (k.sets_are depth q.1)))
+
+-- the options left now, from the fields
+pub left_now : {o pr w : ℕ} {cols : List ℕ} {ps : List Part} {ns act ts : List ℕ} {never room : ℕ} {s t : TableValue} → s ≡ t → IsBits s.problem o pr w cols ps ns act s.covered ts never room
+    → (set : List Part) → set ≡ set_at w ps ns (length s.covered) → AreLeft t.problem t.covered (words_for (length t.problem.options)) set
+left_now {o} {pr} {w} {cols} {ps} {ns} {act} {ts} {never} {room} {s} {t} e h set x =
+    let all = subst (λ d. AreLeft s.problem d w set) (take_all (length s.covered) s.covered (le_refl (length s.covered))) (rw x (h.sets_are (length s.covered) (le_refl (length s.covered)))) in
+    subst (λ u. AreLeft u.problem u.covered (words_for (length u.problem.options)) set) e (subst (λ v. AreLeft s.problem s.covered v set) h.words_are all)
+
+-- the list of an item that isn't covered is in them
+pub told_now : {o pr w : ℕ} {cols : List ℕ} {ps : List Part} {ns act ts : List ℕ} {never room : ℕ} {s t : TableValue} → s ≡ t → IsBits s.problem o pr w cols ps ns act s.covered ts never room
+    → (j : ℕ) → 0 < j → j ≤ length t.problem.names → has t.covered j ≡ false → (set : List Part) → AreLeft t.problem t.covered (words_for (length t.problem.options)) set
+    → (row : List ℕ) → row ≡ row_at w (j - 1) cols → IsListOf (list_of t.problem t.covered j) set row
+told_now {o} {pr} {w} {cols} {ps} {ns} {act} {ts} {never} {room} {s} {t} e h j a b free set left row y =
+    let k = bits_at e h in
+    rw y (list_is k j a b set (subst (λ d. AreLeft t.problem d w set) (sym (before_none j t.covered free)) (subst (λ v. AreLeft t.problem t.covered v set) (sym k.words_are) left)))
 
 -- an option of an item's list
 pub member_in : {o pr w : ℕ} {cols : List ℕ} {ps : List Part} {ns act ts : List ℕ} {never room : ℕ} {s t : TableValue} → s ≡ t → IsBits s.problem o pr w cols ps ns act s.covered ts never room

@@ -1,11 +1,12 @@
 //! The table whose lists are bit sets of options.
-ghost use Rattle.std.specs.Prelude.{◌≡◌, ◌<◌, ◌≤◌, ◌+◌, ◌-◌, ◌*◌, ◌^◌, ◌&&◌, ◌||◌, ◌==◌, not, ℕ, length, slice_index_or, option_map, vec_capacity, Some};
+ghost use Rattle.std.specs.Prelude.{◌≡◌, ◌<◌, ◌≤◌, ◌+◌, ◌-◌, ◌*◌, ◌^◌, ◌&&◌, ◌||◌, ◌==◌, not, false, ℕ, length, slice_index_or, option_map, vec_capacity, Some};
 ghost use Rattle.std.specs.List.{All};
+ghost use Rattle.cover_problem.specs.Lists.{has};
 ghost use Rattle.cover_problem.specs.Problem as problem;
 ghost use Rattle.cover_problem.specs.Covering.{list_of};
-ghost use Rattle.cover_bits.specs.Parts.{in_row};
+ghost use Rattle.cover_bits.specs.Parts.{words_for, in_row};
 ghost use Rattle.cover_bits.specs.Bits as bits;
-ghost use Rattle.cover_bits.specs.Bits.{IsListOf, IsNextWithout};
+ghost use Rattle.cover_bits.specs.Bits.{AreLeft, IsListOf, IsNextWithout};
 
 use crate::making::{add_below, empty_row, fill, note_all};
 use crate::sets::{
@@ -163,6 +164,28 @@ impl BitTable {
     }
 }
 
+impl BitTable {
+    /// The parts of the options left now. The lists of all items that aren't covered are in them.
+    #[inline(always)]
+    fn left(&self) -> &[Part]
+        ensures { AreLeft self.now.problem self.now.covered (words_for (length self.now.problem.options)) result.now }
+    {
+        set(&self.parts, &self.counts, self.words, self.covered.len())
+    }
+
+    /// How many of the options left now have an item.
+    #[inline(always)]
+    fn len_in(&self, left: &[Part], item: u32) -> u32
+        requires left { AreLeft self.now.problem self.now.covered (words_for (length self.now.problem.options)) left.now }
+        requires some { 0 < item }
+        requires within { item ≤ length self.now.problem.names }
+        requires uncovered { has self.now.covered item ≡ false }
+        ensures { result ≡ length (list_of self.now.problem self.now.covered item) }
+    {
+        count_both(left, row(&self.columns, self.words, (item - 1) as usize))
+    }
+}
+
 impl Table for BitTable {
     ghost problem_value = { λ t. t.problem };
 
@@ -220,6 +243,27 @@ impl Table for BitTable {
     fn len(&self, item: u32) -> u32 {
         let (left, column) = self.list(item);
         count_both(left, column)
+    }
+
+    #[inline(always)]
+    fn choose(&self) -> u32 {
+        // `len` would look up for each item which set its list is in. Else this is the walk of every table.
+        let left = self.left();
+        let mut best = self.first_item().unwrap();
+        let mut least = self.len_in(left, best);
+        let mut item = best;
+        while let Some(next) = self.next_item(item) {
+            if least == 0 {
+                return best;
+            }
+            let len = self.len_in(left, next);
+            if len < least {
+                best = next;
+                least = len;
+            }
+            item = next;
+        }
+        best
     }
 
     #[inline(always)]

@@ -16,6 +16,7 @@ pub mod TimeLemmas
 pub mod ActiveLemmas
 pub mod CoveredLemmas
 pub mod RemainingLemmas
+pub mod ChoiceLemmas
 pub mod PathLemmas
 pub mod CoverLemmas
 pub mod ProblemLemmas

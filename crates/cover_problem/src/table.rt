@@ -2,7 +2,7 @@
 ghost use Rattle.std.specs.Prelude.{◌≡◌, ◌<◌, ◌≤◌, List, ◌∷◌, ◌++◌, [], ℕ, length, true, false, OnOk, IfOk};
 ghost use Rattle.cover_problem.specs.Lists.{has, above};
 ghost use Rattle.cover_problem.specs.Problem.{ProblemValue, IsProblem};
-ghost use Rattle.cover_problem.specs.Covering.{active, list_of, IsInList, first_left, last_left, next_left, prev_left};
+ghost use Rattle.cover_problem.specs.Covering.{active, choice, list_of, IsInList, first_left, last_left, next_left, prev_left};
 ghost use Rattle.cover_problem.specs.Table.{IsCoveredList};
 
 use crate::problem::Problem;
@@ -45,6 +45,33 @@ pub trait Table: Drop {
         requires some { 0 < item }
         requires within { item ≤ length (problem_value self.now).names }
         ensures { result ≡ length (list_of (problem_value self.now) (covered_list self.now) item) };
+
+    /// The first of the active items with the fewest options left (exercise 9). A table may have a shorter way to it.
+    #[inline(always)]
+    fn choose(&self) -> u32
+        requires problem { IsProblem (problem_value self.now) }
+        requires open { 0 < length (active (problem_value self.now) (covered_list self.now)) }
+        ensures { result ≡ choice (problem_value self.now) (covered_list self.now) }
+    {
+        // An item is active, as `open` asks, so there is a first one.
+        let mut best = self.first_item().unwrap();
+        let mut least = self.len(best);
+        let mut item = best;
+        while let Some(next) = self.next_item(item) {
+            // None has fewer, and of those with as few the first is asked for.
+            if least == 0 {
+                return best;
+            }
+            // Only a shorter list displaces the best, so that of those with as few the first stays.
+            let len = self.len(next);
+            if len < least {
+                best = next;
+                least = len;
+            }
+            item = next;
+        }
+        best
+    }
 
     // Steps X4 to X6 try the options of the chosen item one after another, from the first on.
     /// The first option of an item's list.

@@ -1,4 +1,3 @@
-pub mod ChoiceLemmas
 pub mod CoverEach
 pub mod Neighbours
 pub mod RankLemmas
@@ -13,6 +12,7 @@ pub mod ListingLemmas
 pub mod ReadLemmas
 pub mod MarkedLemmas
 pub mod ResumeLemmas
+pub mod OptionLemmas
 pub mod MovingLemmas
 pub mod SecondLemmas
 pub mod Length

@@ -1,5 +1,5 @@
 -- A machine on its way down a path to a state.
-use Rattle.std.proofs.Common.{◌≡◌, ℕ, suc, ◌+◌, ◌<◌, ◌≤◌, ◌&&◌, IsTrue, All, Bool, true, false, not, nat_lt, List, [], ◌∷◌, ◌++◌, length, get_or, take, drop, refl, sym, ap, ◌∙◌, subst, add-one}
+use Rattle.std.proofs.Common.{◌≡◌, ℕ, suc, ◌+◌, ◌<◌, ◌≤◌, ◌&&◌, IsTrue, All, Bool, true, false, not, nat_lt, List, [], ◌∷◌, ◌++◌, length, get_or, take, drop, refl, sym, ap, ◌∙◌, subst, add-one, arith}
 use Rattle.std.proofs.Math.Seq.{take-suc}
 use Rattle.std.proofs.lemmas.List.{take_all}
 use Rattle.std.specs.List.{list_any}
@@ -8,6 +8,9 @@ use Rattle.cover_problem.specs.Lists.{has, above}
 use Rattle.cover_problem.specs.Problem.{ProblemValue, option_at}
 use Rattle.cover_problem.specs.Covering.{active, remaining, choice}
 use Rattle.cover_problem.specs.Path.{IsChoice, IsValid, covered_by}
+use Rattle.cover_problem.proofs.ActiveLemmas.{option_items_in}
+use Rattle.cover_problem.proofs.BoundLemmas.{few}
+use Rattle.cover_problem.proofs.MemberLemmas.{none_member}
 use Rattle.cover_problem.proofs.PathLemmas.{covered_by_push, covered_by_none, valid_push, choice_has}
 use Rattle.cover_problem.proofs.CoverLemmas.{valid_split}
 use Rattle.x_steps.specs.declared.state.Label.{Label}
@@ -20,7 +23,7 @@ use Rattle.x_steps.specs.StateValue.{StateValue, at, start}
 use Rattle.x_steps.specs.Steps.{Fits, IsOpen, item_after, remaining_after, cursor_of, covered_in, covered_at, next}
 use Rattle.x_steps.specs.Machine.{Keeps, Position, Goes}
 use Rattle.x_steps.specs.Marked.{AreMarksOf}
-use Rattle.x_steps.specs.Resume.{position, IsDown}
+use Rattle.x_steps.specs.Resume.{position, HasStep, IsDown}
 use Rattle.x_steps.proofs.Neighbours.{open_is, parted, split_last_push}
 use Rattle.x_steps.proofs.MarkedLemmas.{left_by_marks, option_within, marks_taken}
 use Rattle.x_steps.proofs.MachineLemmas.{from_label}
@@ -143,6 +146,26 @@ module _ (p : ProblemValue) (s : StateValue) (table_problem : ProblemValue) (cov
   pub chosen_X2 : (item : ℕ) → item ≡ choice table_problem covered → item ≡ item_after p s.path
   chosen_X2 item chosen = chosen ∙ ap (λ q. choice q covered) k.same ∙ ap (λ c. choice p c) stands_X2
 
+  -- what an option with which the path can go on tells of its items
+  module _ (o : ℕ) (fits : Fits p (at X5 s.path (At o))) where
+    pub known_option : (0 < o) × (o ≤ length p.options)
+    known_option = let t = choice_has p (covered_by p s.path) o fits.1 in (t.some, t.within)
+
+    pub known_items : (i : ℕ) → has (option_at p o) i ≡ true → (0 < i) × (i ≤ length table_problem.names) × (has covered i ≡ false)
+    known_items i m =
+        let t = choice_has p (covered_by p s.path) o fits.1 in
+        let r = option_items_in p o i k.sound t.some t.within m in
+        rw (k.same, stands_X2) (r.0, r.1, none_member (has (covered_by p s.path)) (option_at p o) i t.free m)
+
+    pub known_few : length table_problem.options < 4294967295
+    known_few = rw k.same (let f = (few p k.sound).1 in omega arith)
+
+    pub known_open : 0 < length (active table_problem covered)
+    known_open = rw (k.same, stands_X2) fits.1.active
+
+    pub known_choice : has (option_at p o) (choice table_problem covered) ≡ true
+    known_choice = rw (k.same, stands_X2) (choice_has p (covered_by p s.path) o fits.1).item
+
   module _ (o : ℕ) (some : 0 < o) (within : o ≤ length p.options) (marks : List Bool) (option : List ℕ) (is : option ≡ option_at p o) (marked : AreMarksOf marks (length p.names) (covered_by p s.path)) where
     pub all_within : All (λ i. i < length marks) option
     all_within = option_within p k.sound o some within marks (covered_by p s.path) option marked is
@@ -155,6 +178,10 @@ module _ (p : ProblemValue) (s : StateValue) (table_problem : ProblemValue) (cov
         f ∙ left_by_marks p k.sound o some within marks (covered_by p s.path) option item marked is ∙ ap (λ i. has (remaining p (covered_by p s.path) i) o) now in
         let active = (active_X2 a h).0 e in
         (λ t. (valid_X2, record { active = active; left = sym left_is ∙ t }), λ g. left_is ∙ g.1.left)
+
+-- a step of the search, from the state inside the machine
+pub step_inside : {p : ProblemValue} {s : StateValue} {now : Position} (l : Label) (k : Cursor) → position p s ≡ now → HasStep now l k → Fits p (at l s.path k)
+step_inside l k e h = subst (λ m. HasStep m l k) (sym e) h
 
 -- where the test fails there is no choice
 pub no_choice : {X : Type 0} (b : Bool) → b ≡ false → (IsTrue b → X) × (X → IsTrue b) → X → ⊥

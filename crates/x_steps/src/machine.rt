@@ -14,7 +14,7 @@ mod moving;
 mod read;
 mod walk;
 
-use crate::covering::{choose, cover_others, has_active, last_covered, uncover_last};
+use crate::covering::{cover_others, has_active, last_covered, uncover_last};
 use crate::event::Event;
 use crate::fault::StepFault;
 use crate::state::{Cursor, Label, State};
@@ -205,7 +205,7 @@ impl<'p, T: Table> Machine<'p, T> {
         requires { IsAt self.old Label.X4 }
         ensures { Goes self.old self.new result }
     {
-        let item = choose(&self.table);
+        let item = self.table.choose();
         self.open_list(item)
     }
 

@@ -11,7 +11,7 @@ ghost use Rattle.x_steps.specs.Machine.{IsAt, covered_items, item_to_choose};
 ghost use Rattle.x_steps.specs.Marked.{none_marked};
 ghost use Rattle.x_steps.specs.Resume.{position, opened, standing_at, at_step, HasStep, IsDown, GoesDown};
 
-use crate::covering::{choose, has_active};
+use crate::covering::has_active;
 use crate::fault::AtFault;
 use crate::machine::Machine;
 use crate::marks::{any_marked, mark_all, no_marks};
@@ -144,7 +144,7 @@ impl<'p, T: Table> Machine<'p, T> {
         if !has_active(&self.table) {
             return None;
         }
-        let item = choose(&self.table);
+        let item = self.table.choose();
         if is_free(self.problem.option(option), item, marks) {
             Some(item)
         } else {
@@ -235,7 +235,7 @@ impl<'p, T: Table> Machine<'p, T> {
     }
 
     /// The same where the item that is chosen is known.
-    fn open_for(&mut self, item: u32, option: u32)
+    pub(super) fn open_for(&mut self, item: u32, option: u32)
         requires label { IsAt self.old Label.X2 }
         requires item { item ≡ item_to_choose self.old }
         requires fits { HasStep self.old Label.X5 (Cursor.At option) }

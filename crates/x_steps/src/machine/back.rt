@@ -7,7 +7,7 @@ ghost use Rattle.x_steps.specs.Before.{came_from};
 ghost use Rattle.x_steps.specs.Steps.{IsBefore};
 ghost use Rattle.x_steps.specs.Machine.{IsAt, GoesBack, state_before};
 
-use crate::covering::{choose, cover_others, has_active, last_covered, uncover_last};
+use crate::covering::{cover_others, has_active, last_covered, uncover_last};
 use crate::fault::StepFault;
 use crate::machine::Machine;
 use crate::state::{Cursor, Label};
@@ -158,7 +158,7 @@ impl<'p, T: Table> Machine<'p, T> {
         // The table tells where X8 came from: X2 goes there only where no item is active.
         if has_active(&self.table) {
             // The same items are covered as at X4, so the same one is chosen.
-            let item = choose(&self.table);
+            let item = self.table.choose();
             self.table.cover(item);
             self.state.go(Label::X7, Cursor::None);
         } else {

@@ -6,6 +6,7 @@ ghost use Rattle.x_steps.specs.Steps.{IsOpen};
 ghost use Rattle.x_steps.specs.Machine.{IsAt};
 ghost use Rattle.x_steps.specs.Resume.{standing_at, at_step, HasStep, longer_by, IsOnPath, IsOnItsPath};
 
+use crate::covering::chosen_of;
 use crate::machine::Machine;
 use crate::paths::shared;
 use crate::state::{Cursor, Label, State};
@@ -124,9 +125,35 @@ impl<'p, T: Table> Machine<'p, T> {
         ensures { self.new ≡ longer_by self.old option }
     {
         // Nothing is tested, as the state is known to be of the search.
-        self.cover_item();
-        self.turn(Label::X5, Cursor::At(option));
+        self.arrive_at_option(option);
         self.take(option);
+    }
+
+    /// Goes to X5 at an option with which its path can go on.
+    fn arrive_at_option(&mut self, option: u32)
+        requires on { IsOnItsPath self.old }
+        requires fits { HasStep self.old Label.X5 (Cursor.At option) }
+        ensures { self.new ≡ at_step self.old Label.X5 (Cursor.At option) }
+    {
+        match self.state.label {
+            Label::X5 => self.turn(Label::X5, Cursor::At(option)),
+            // At X2, the other step that `on` allows. The option tells which item was chosen.
+            _ => self.open_known(option),
+        }
+    }
+
+    /// From X2 to X5 at an option with which its path can go on.
+    fn open_known(&mut self, option: u32)
+        requires label { IsAt self.old Label.X2 }
+        requires fits { HasStep self.old Label.X5 (Cursor.At option) }
+        ensures { self.new ≡ at_step self.old Label.X5 (Cursor.At option) }
+    {
+        let item = chosen_of(
+            &self.table,
+            self.problem.option(option),
+            self.problem.primary(),
+        );
+        self.open_for(item, option);
     }
 
     /// Takes options with which its path can go on, one after the other.

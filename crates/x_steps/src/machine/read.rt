@@ -4,7 +4,7 @@ ghost use Rattle.x_steps.specs.Answers.{ReturnsRows, ReturnsRow};
 ghost use Rattle.x_steps.specs.Steps.{covered_in, is_visit};
 ghost use Rattle.x_steps.specs.Machine.{remaining_in, second_in, chosen_item, chosen_in};
 
-use crate::covering::{choose, has_active, last_covered};
+use crate::covering::{has_active, last_covered};
 use crate::listing::{active_items, options_of, secondary_items};
 use crate::machine::Machine;
 use crate::state::{Cursor, Label};
@@ -62,7 +62,7 @@ impl<'p, T: Table> Machine<'p, T> {
     {
         match (self.state.label, self.state.cursor) {
             // Here alone the item is still to be covered, so it is chosen as X4 will.
-            (Label::X4, _) => Some(choose(&self.table)),
+            (Label::X4, _) => Some(self.table.choose()),
             (Label::X5, _) => Some(last_covered(&self.table)),
             (Label::X7, _) => Some(last_covered(&self.table)),
             (Label::X6, Cursor::At(option)) => {

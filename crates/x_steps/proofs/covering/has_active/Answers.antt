@@ -1,5 +1,5 @@
 use Rattle.std.proofs.Common.{ap, ◌∙◌, is_some, ℕ}
-use Rattle.x_steps.proofs.ChoiceLemmas.{active_some}
+use Rattle.cover_problem.proofs.ChoiceLemmas.{active_some}
 use Rattle.x_steps.proofs.covering.has_active.Goals as goal
 
 pub returns : goal.returns

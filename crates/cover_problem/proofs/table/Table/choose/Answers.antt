@@ -1,6 +1,6 @@
 use Rattle.std.proofs.Common.{arith, sym, ◌∙◌}
-use Rattle.x_steps.proofs.ChoiceLemmas.{some_active, first_is, begins, next_is, takes, keeps, falls, walks_end, zero_ends}
-use Rattle.x_steps.proofs.covering.choose.Goals as goal
+use Rattle.cover_problem.proofs.ChoiceLemmas.{some_active, first_is, begins, next_is, takes, keeps, falls, walks_end, zero_ends}
+use Rattle.cover_problem.proofs.table.Table.choose.Goals as goal
 
 pub unwrap-best-requires : goal.unwrap-best-requires
 unwrap-best-requires g c = rw c.first_item.ensures (some_active _ _ c.requires.open)

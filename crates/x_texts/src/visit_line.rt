@@ -1,10 +1,9 @@
 //! The line of a visit, kept for the next visit. In path order neighbours begin alike, and what they share is made into digits once.
-ghost use Rattle.std.specs.Prelude.{◌≡◌, ◌≤◌, ◌<◌, ◌++◌, ℕ, List, [], take, length, vec_len, IfOk, OnOk};
+ghost use Rattle.std.specs.Prelude.{◌≡◌, ◌≤◌, ◌<◌, ◌++◌, ◌∷◌, ℕ, List, [], take, length, vec_len, IfOk, OnOk};
 ghost use Rattle.x_texts.specs.Ends.{IsVisitLine};
 
 use itoa::Buffer;
 use std::alloc::{AllocError, Global};
-use text_lines::write_word;
 
 /// The bytes of a visit's line without its end, and where in them its first word and each of its choices end.
 #[derive(Drop)]
@@ -27,6 +26,20 @@ fn shared(before: &[u32], path: &[u32]) -> usize
         }
     }
     most
+}
+
+/// Adds a short word after another, byte by byte: for a few digits a copy of memory takes longer.
+#[inline(always)]
+fn put_word(bytes: &mut Vec<u8>, word: &[u8]) -> Result<(), AllocError>
+    ensures { OnOk result (bytes.new.items ≡ bytes.old.items ++ 32 ∷ word.now) }
+{
+    // Room for all of it first.
+    bytes.reserve(word.len() + 1)?;
+    bytes.push_reserved(b' ');
+    for byte in word {
+        bytes.push_reserved(*byte);
+    }
+    Ok(())
 }
 
 impl VisitLine {
@@ -65,7 +78,7 @@ impl VisitLine {
         // One buffer for all: a call of `write_number` for each isn't inlined.
         let mut buffer = Buffer::new();
         for choice in more {
-            write_word(&mut self.bytes, buffer.format(*choice))?;
+            put_word(&mut self.bytes, buffer.format(*choice).as_bytes())?;
             self.ends.push(self.bytes.len())?;
         }
         Ok(())

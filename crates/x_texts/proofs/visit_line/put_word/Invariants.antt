@@ -1,0 +1,8 @@
+use Rattle.std.proofs.Common.{◌≡◌, ◌+◌, ◌-◌, ◌≤◌, ◌++◌, ◌∷◌, take, length, vec_len, vec_capacity}
+use Rattle.x_texts.proofs.visit_line.put_word.Given as goal
+
+abbrev pub invariant-loop-byte : goal.invariant-loop-byte
+invariant-loop-byte l = record {
+  added : l.bytes.items ≡ l.fn.bytes.items ++ 32 ∷ take l.byte-index l.word;
+  room : vec_len l.bytes + (length l.word - l.byte-index) ≤ vec_capacity l.bytes;
+}

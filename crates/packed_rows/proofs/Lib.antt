@@ -1,2 +1,5 @@
 pub mod NumberLemmas
+pub mod PieceLemmas
+pub mod RopeLemmas
 pub mod RowLemmas
+mod PieceExamples

@@ -175,6 +175,40 @@ unfolding bytes_of
 put_last n old mid new e f =
     f ∙ ap (λ xs. xs ++ n % 128 ∷ []) e ∙ append_assoc old (front 9 (n / 128)) (n % 128 ∷ [])
 
+-- fewer groups are enough for a smaller number
+front_enough : (k n : ℕ) → n < 128 ^ k → front (suc k) n ≡ front k n
+front_enough zero n h = let z : n ≡ 0 = omega arith in ap (front 1) z ∙ front_none 1 ∙ sym (front_none 0) ∙ ap (front 0) (sym z)
+front_enough (suc k) n h =
+    elim (cases_lt 0 n) [
+      | inl l ↦ let q : n / 128 < 128 ^ k = omega (arith, pow-suc 128 k) in
+          front_more (suc k) n l ∙ ap (λ fs. fs ++ (n % 128 + 128) ∷ []) (front_enough k (n / 128) q) ∙ sym (front_more k n l)
+      | inr l ↦ let z : n ≡ 0 = omega arith in
+          ap (front (suc (suc k))) z ∙ front_none (suc (suc k)) ∙ sym (front_none (suc k)) ∙ ap (front (suc k)) (sym z)
+    ]
+
+-- a number of 32 bits has four bytes at most before its last
+pub put_word : (n : ℕ) (old mid new : List ℕ) → n < 4294967296 → mid ≡ old ++ front 4 (n / 128) → new ≡ mid ++ n % 128 ∷ [] → new ≡ old ++ bytes_of n
+put_word n old mid new h e f =
+    let fewer : front 9 (n / 128) ≡ front 4 (n / 128) =
+    front_enough 8 (n / 128) (omega arith) ∙ front_enough 7 (n / 128) (omega arith) ∙ front_enough 6 (n / 128) (omega arith)
+    ∙ front_enough 5 (n / 128) (omega arith) ∙ front_enough 4 (n / 128) (omega arith) in
+    put_last n old mid new (e ∙ ap (λ fs. old ++ fs) (sym fewer)) f
+
+-- a small one has none
+pub put_small : (n : ℕ) (old new : List ℕ) → n < 128 → new ≡ old ++ n ∷ [] → new ≡ old ++ bytes_of n
+unfolding bytes_of
+put_small n old new h e =
+    let z : n / 128 ≡ 0 = omega arith in let m : n % 128 ≡ n = omega arith in
+    e ∙ ap (λ fs. old ++ fs) (sym ((λ j. front 9 (z j) ++ m j ∷ []) ∙ ap (λ fs. fs ++ n ∷ []) (front_none 9)))
+
+-- a number below 128 times 128 has one
+pub put_two : (n : ℕ) (old mid new : List ℕ) → 128 ≤ n → n < 16384 → mid ≡ old ++ (n / 128 + 128) ∷ [] → new ≡ mid ++ n % 128 ∷ [] → new ≡ old ++ bytes_of n
+put_two n old mid new l h e f =
+    let q : 0 < n / 128 = omega arith in let z : n / 128 / 128 ≡ 0 = omega arith in let m : n / 128 % 128 ≡ n / 128 = omega arith in
+    let one : front 9 (n / 128) ≡ (n / 128 + 128) ∷ [] =
+    front_more 8 (n / 128) q ∙ (λ j. front 8 (z j) ++ (m j + 128) ∷ []) ∙ ap (λ fs. fs ++ (n / 128 + 128) ∷ []) (front_none 8) in
+    put_last n old mid new (e ∙ ap (λ fs. old ++ fs) (sym one)) f
+
 -- ---- a row has no more numbers than bytes
 
 few_at : (high : ℕ) (bs : List ℕ) → length (numbers_at high bs) ≤ length bs

@@ -1,7 +1,9 @@
 //! Rows of numbers, each number in as few bytes as it needs.
 #![tactic(auto)]
 
+mod draft;
 mod reader;
+mod rope;
 mod row;
 #[cfg(test)]
 mod row_tests;

@@ -2,13 +2,14 @@
 ghost use Rattle.std.specs.Prelude.{◌≡◌, ◌↔◌, ◌∷◌, [], ◌≤◌, length, drop, slice_index, MatchOption, IsTrue};
 ghost use Rattle.packed_rows.specs.Numbers.{numbers_of, after_first, IsSpelled};
 
+use crate::rope::{Rope, same};
 use std::marker::Model;
 
 /// What is left of a row: its numbers from one on, which are read as they are asked for. Its bytes are
 /// those that its numbers were put as.
 #[derive(Drop)]
 pub struct Reader<'a> {
-    bytes: &'a [u8],
+    rope: Rope<'a>,
 }
 
 impl<'a> Model for Reader<'a> {
@@ -17,26 +18,27 @@ impl<'a> Model for Reader<'a> {
 
     ghost Value = { List ℕ };
 
-    ghost view = { λ r. numbers_of r.bytes.now };
+    ghost view = { λ r. numbers_of r.rope };
 
-    ghost invariant = { λ r. IsSpelled r.bytes.now };
+    ghost invariant = { λ r. IsSpelled r.rope };
 }
 
-/// The first number of some bytes, and how many bytes it takes; none where none is whole.
-fn first(bytes: &[u8]) -> Option<(u64, usize)>
-    ensures { MatchOption result (numbers_of bytes.now ≡ []) (λ r.
-        (r.1 ≤ length bytes.now) × (numbers_of bytes.now ≡ r.0 ∷ numbers_of (drop r.1 bytes.now))
-        × (drop r.1 bytes.now ≡ after_first bytes.now)) }
+/// Takes the first number of some bytes; none where none is whole.
+fn first(rope: &mut Rope<'_>) -> Option<u64>
+    ensures number { MatchOption result (numbers_of rope.old ≡ []) (λ n.
+        (numbers_of rope.old ≡ n ∷ numbers_of rope.new) × (rope.new ≡ after_first rope.old)) }
+    ensures fewer { length rope.new ≤ length rope.old }
 {
     let mut high: u64 = 0;
-    'reading: for (read, byte) in bytes.iter().enumerate() {
+    // A number's bytes may stand in two pieces, so they are asked for one by one.
+    'reading: while let Some(byte) = rope.byte() {
         // Seven bits more would pass 64: no number was put so.
         if high >= 1 << 57 {
             return None;
         }
-        let byte = *byte as u64;
+        let byte = byte as u64;
         if byte < 128 {
-            return Some((high * 128 + byte, read + 1));
+            return Some(high * 128 + byte);
         }
         high = high * 128 + (byte - 128);
     }
@@ -45,11 +47,11 @@ fn first(bytes: &[u8]) -> Option<(u64, usize)>
 
 impl<'a> Reader<'a> {
     /// Of the numbers of these bytes.
-    pub(crate) fn of(bytes: &'a [u8]) -> Reader<'a>
-        requires { IsSpelled bytes.now }
-        ensures { result ≡ numbers_of bytes.now }
+    pub(crate) fn of(rope: Rope<'a>) -> Reader<'a>
+        requires { IsSpelled rope }
+        ensures { result ≡ numbers_of rope.entry }
     {
-        Reader { bytes }
+        Reader { rope }
     }
 
     /// The next number; none where no more is whole.
@@ -57,21 +59,24 @@ impl<'a> Reader<'a> {
         ensures { MatchOption result ((self.old ≡ []) × (self.new ≡ []))
             (λ n. self.old ≡ n ∷ self.new) }
     {
-        match first(self.bytes) {
-            Some((number, size)) => {
-                let (_, rest) = self.bytes.split_at(size);
-                self.bytes = rest;
-                Some(number)
-            }
+        match first(&mut self.rope) {
+            Some(number) => Some(number),
             None => None,
         }
+    }
+
+    /// Whether no number is left.
+    pub fn is_empty(&self) -> bool
+        ensures { IsTrue result ↔ (self.now ≡ []) }
+    {
+        self.rope.copy().part(1).is_empty()
     }
 
     /// Whether the same numbers are left. Their bytes are compared, for each number is put in one way.
     pub fn same(&self, other: &Reader<'_>) -> bool
         ensures { IsTrue result ↔ (self.now ≡ other.now) }
     {
-        self.bytes == other.bytes
+        same(&mut self.rope.copy(), &mut other.rope.copy())
     }
 
     /// The next number; 0 where no more is whole.

@@ -1,10 +1,13 @@
 //! One row.
-ghost use Rattle.std.specs.Prelude.{◌≡◌, ◌++◌, ◌∷◌, [], ◌<◌, ◌^◌, ◌≤◌, ◌+◌, length, vec_len, vec_capacity};
+ghost use Rattle.std.specs.Prelude.{◌≡◌, ◌++◌, ◌∷◌, [], ◌<◌, ◌^◌, ◌≤◌, ◌+◌, ◌*◌, length, vec_len, vec_capacity};
 ghost use Rattle.std.specs.Prelude.{OnOk, OnErr};
+ghost use Rattle.std.specs.List.{flat_map};
 ghost use Rattle.cover_problem.specs.Answers.{Returns};
 ghost use Rattle.packed_rows.specs.Numbers.{front, bytes_of, numbers_of, IsRow};
 
+use crate::draft::LONG;
 use crate::reader::Reader;
+use crate::rope::Rope;
 use std::alloc::{AllocError, Global};
 use std::marker::Model;
 
@@ -12,6 +15,8 @@ use std::marker::Model;
 #[derive(Drop)]
 pub struct Row {
     bytes: Vec<u8>,
+    /// Before how many bytes long lists begin: where later rows may agree with it.
+    marks: Vec<usize>,
 }
 
 impl Model for Row {
@@ -53,6 +58,46 @@ pub(crate) fn put(bytes: &mut Vec<u8>, n: u64)
     bytes.push_reserved((n % 128) as u8);
 }
 
+/// Adds the bytes of a number of 32 bits.
+fn put_word(bytes: &mut Vec<u8>, n: u32)
+    requires room { vec_len bytes.old + 5 ≤ vec_capacity bytes.old }
+    ensures added { bytes.new.items ≡ bytes.old.items ++ bytes_of n }
+    ensures long { vec_len bytes.new ≤ vec_len bytes.old + 5 }
+    ensures capacity { vec_capacity bytes.new ≡ vec_capacity bytes.old }
+{
+    if n < 128 {
+        bytes.push_reserved(n as u8);
+        return;
+    }
+    // Most numbers of long lists take two bytes, and no call for each is made.
+    if n < 16_384 {
+        bytes.push_reserved((n / 128) as u8 + 128);
+        bytes.push_reserved((n % 128) as u8);
+        return;
+    }
+    put_front(bytes, (n / 128) as u64, 4);
+    bytes.push_reserved((n % 128) as u8);
+}
+
+/// Adds the bytes of numbers of 32 bits.
+fn put_words(bytes: &mut Vec<u8>, list: &[u32])
+    requires room { vec_len bytes.old + 5 * length list.now ≤ vec_capacity bytes.old }
+    ensures added { bytes.new.items ≡ bytes.old.items ++ flat_map bytes_of list.now }
+{
+    'putting: for n in list {
+        put_word(bytes, *n);
+    }
+}
+
+/// A list of so many numbers begins at a place. A short one is nothing to share.
+fn mark(marks: &mut Vec<usize>, place: usize, size: usize) -> Result<(), AllocError> {
+    if size < LONG / 2 {
+        return Ok(());
+    }
+    marks.push(place)?;
+    Ok(())
+}
+
 impl Row {
     /// No number.
     pub fn new(alloc: Global) -> Row
@@ -60,6 +105,7 @@ impl Row {
     {
         Row {
             bytes: Vec::new(alloc),
+            marks: Vec::new(alloc),
         }
     }
 
@@ -68,6 +114,7 @@ impl Row {
         ensures { self.new ≡ [] }
     {
         self.bytes.clear();
+        self.marks.clear();
     }
 
     /// Adds a number; where memory runs out, nothing changes.
@@ -81,19 +128,38 @@ impl Row {
         Ok(())
     }
 
+    /// Adds a list of numbers; where memory runs out, nothing changes. Rows that hold one for long share what is the same in long lists.
+    pub fn put_list(&mut self, list: &[u32]) -> Result<(), AllocError>
+        ensures added { OnOk result (self.new ≡ self.old ++ list.now) }
+        ensures unchanged { OnErr result (self.new ≡ self.old) }
+    {
+        let place = self.size();
+        mark(&mut self.marks, place, list.len())?;
+        // Five bytes are enough for each: room is taken once for all.
+        self.bytes.reserve(list.len().saturating_mul(5))?;
+        put_words(&mut self.bytes, list);
+        Ok(())
+    }
+
     /// Its numbers, to be read.
     pub fn reader(&self) -> Reader<'_>
         ensures { result ≡ self.now }
     {
-        Reader::of(&self.bytes)
+        Reader::of(Rope::of(&self.bytes))
     }
 
     /// Its bytes.
     pub(crate) fn bytes(&self) -> &[u8]
         ensures numbers { numbers_of result.now ≡ self.now }
         ensures row { IsRow result.now }
+        ensures bound { length result.now < 2 ^ 63 }
     {
         &self.bytes
+    }
+
+    /// Where long lists begin among its bytes.
+    pub(crate) fn marks(&self) -> &[usize] {
+        &self.marks
     }
 
     /// How many bytes it takes: as many as it has numbers, or more.
@@ -109,7 +175,9 @@ impl Row {
         ensures { Returns result self.now }
     {
         // A row that grew has room for more: a copy, which may stand for long, is made to measure.
-        let bytes = Vec::from_slice(*self.bytes.allocator(), &self.bytes)?;
-        Ok(Row { bytes })
+        let alloc = *self.bytes.allocator();
+        let bytes = Vec::from_slice(alloc, &self.bytes)?;
+        let marks = Vec::from_slice(alloc, &self.marks)?;
+        Ok(Row { bytes, marks })
     }
 }

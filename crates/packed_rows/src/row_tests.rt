@@ -146,3 +146,103 @@ fn rows_are_read_apart(rt: HostRuntime) -> Result<(), AllocError> {
     assert_two(&rt, &rows);
     Ok(())
 }
+
+/// A row of 7, a list that counts from `first` up, in which the last twenty numbers are `last`, and 9.
+fn list_row(alloc: Global, first: u32, last: u32) -> Result<Row, AllocError> {
+    let mut list = Vec::new(alloc);
+    'putting: for k in 0..2000u32 {
+        list.push(if k < 1980 {
+            first.wrapping_add(k)
+        } else {
+            last
+        })?;
+    }
+    let mut row = Row::new(alloc);
+    row.put(7)?;
+    row.put_list(&list)?;
+    row.put(9)?;
+    Ok(row)
+}
+
+/// Lists by their first number and the last twenty, and the fewest and the most bytes that a row more with one takes, with its places.
+static LISTS: [(u32, u32, usize, usize); 5] = [
+    // The first is written whole.
+    (300, 5, 3000, 4100),
+    // Most of it stands there: the rest of at most 5 bytes for each number, and three places.
+    (300, 4294967295, 100, 180),
+    (300, 6, 20, 100),
+    // None of it does.
+    (301, 5, 3000, 4100),
+    // All of it does.
+    (301, 5, 20, 100),
+];
+
+/// Pushes each row, which takes as many bytes as it may.
+fn push_lists(rt: &impl Abort, alloc: Global, rows: &mut Rows) -> Result<(), AllocError> {
+    for (first, last, least, most) in &LISTS {
+        let before = rows.size();
+        rows.push(&list_row(alloc, *first, *last)?)?;
+        let taken = rows.size().saturating_sub(before);
+        assert!(rt; *least <= taken);
+        assert!(rt; taken <= *most);
+    }
+    Ok(())
+}
+
+/// Whether the row at a place tells the same as a row, read from either.
+fn row_is(rows: &Rows, place: usize, row: &Row) -> bool {
+    place < rows.len() && rows.row(place).same(&row.reader()) && row.reader().same(&rows.row(place))
+}
+
+/// Each row is read back as it was pushed, and as no other.
+fn assert_lists(rt: &impl Abort, alloc: Global, rows: &Rows) -> Result<(), AllocError> {
+    for (place, (first, last, _, _)) in LISTS.iter().enumerate() {
+        let row = list_row(alloc, *first, *last)?;
+        assert!(rt; row_is(rows, place, &row));
+        assert!(rt; !row_is(rows, (place + 2) % 5, &row));
+    }
+    Ok(())
+}
+
+#[test]
+fn rows_share_what_is_the_same_in_long_lists(rt: HostRuntime) -> Result<(), AllocError> {
+    let mut rows = Rows::new(rt.alloc());
+    push_lists(&rt, rt.alloc(), &mut rows)?;
+    assert_lists(&rt, rt.alloc(), &rows)
+}
+
+/// Whether the next numbers count from one up.
+fn counts_up(reader: &mut Reader<'_>, first: u64, count: u32) -> bool {
+    'reading: for k in 0..count {
+        if reader.next() != Some(first.wrapping_add(k as u64)) {
+            return false;
+        }
+    }
+    true
+}
+
+/// The second row is read over the borders of its three pieces.
+fn assert_numbers(rt: &impl Abort, rows: &Rows)
+    requires { 1 < length rows.now.rows }
+{
+    let mut reader = rows.row(1);
+    assert!(rt; reader.next() == Some(7));
+    assert!(rt; counts_up(&mut reader, 300, 1980));
+    assert!(rt; reader.next() == Some(4294967295));
+    assert!(rt; !reader.is_empty());
+    'reading: for _k in 0..19u32 {
+        let _last = reader.next();
+    }
+    assert!(rt; reader.next() == Some(9));
+    assert!(rt; reader.is_empty());
+    assert!(rt; reader.next() == None);
+}
+
+#[test]
+fn numbers_are_read_over_borders(rt: HostRuntime) -> Result<(), AllocError> {
+    let mut rows = Rows::new(rt.alloc());
+    push_lists(&rt, rt.alloc(), &mut rows)?;
+    assert!(rt; rows.len() > 1);
+    assert_numbers(&rt, &rows);
+    Ok(())
+}

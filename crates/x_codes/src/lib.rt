@@ -6,5 +6,5 @@ mod reading;
 mod state_tests;
 mod writing;
 
-pub use reading::{choice, read_all, read_path, read_paths, read_state, skip_paths, skip_state};
+pub use reading::{choice, read_path, read_paths, read_state, skip_path, skip_paths, skip_state};
 pub use writing::{put_choices, put_path, put_paths, put_state};

@@ -65,18 +65,6 @@ fn read_choices(reader: &mut Reader<'_>, path: &mut Vec<u32>, count: u64) -> Res
     Ok(())
 }
 
-/// Reads all choices that are left.
-pub fn read_all(alloc: Global, reader: &mut Reader<'_>) -> Result<Vec<u32>, AllocError>
-    ensures { IfOk result (λ choices. choices.items ≡ map choice_of reader.old) }
-{
-    let mut choices = Vec::new(alloc);
-    'reading: while let Some(n) = reader.next() {
-        // How many are left isn't known before, so the vector grows.
-        choices.push(choice(n))?;
-    }
-    Ok(choices)
-}
-
 /// Reads a list of choices.
 pub fn read_path(alloc: Global, reader: &mut Reader<'_>) -> Result<Vec<u32>, AllocError>
     ensures path { IfOk result (λ path. path.items ≡ path_of reader.old) }
@@ -144,8 +132,8 @@ fn skip(reader: &mut Reader<'_>, count: u64)
     }
 }
 
-/// Reads over a list of choices.
-fn skip_path(reader: &mut Reader<'_>)
+/// Reads over a list of choices, without memory.
+pub fn skip_path(reader: &mut Reader<'_>)
     ensures { reader.new ≡ path_rest reader.old }
 {
     let count = reader.number();

@@ -9,15 +9,12 @@ use packed_rows::Row;
 use std::alloc::AllocError;
 use x_steps::{Cursor, Label, State};
 
-/// Adds choices, or other numbers of 32 bits. Where memory runs out, some of them may be there.
+/// Adds choices, or other numbers of 32 bits; where memory runs out, none.
 pub fn put_choices(row: &mut Row, choices: &[u32]) -> Result<(), AllocError>
     ensures code { OnOk result (row.new ≡ row.old ++ choices.now) }
     ensures reads { map choice_of choices.now ≡ choices.now }
 {
-    'putting: for choice in choices {
-        row.put(*choice as u64)?;
-    }
-    Ok(())
+    row.put_list(choices)
 }
 
 /// Adds a list of choices, with its length before it. Where memory runs out, some numbers may be there.

@@ -10,7 +10,7 @@ use drawn_problems::state_of;
 use lab_book::{Book, BookFault, Lease, Leased, Tile};
 use std::alloc::{AllocError, Global};
 use std::test::Fail;
-use x_branches::{Branch, Cut, KeptStretch, Runner, RunnerFault, StartFault, Stretch};
+use x_branches::{Branch, Cut, Runner, RunnerFault, StartFault, Stretch};
 use x_steps::{Cursor, Label, Refused, State};
 
 /// What was made, or that it was refused.
@@ -162,19 +162,6 @@ pub fn tiles_of<'p>(alloc: Global, book: &Book<'p>) -> Result<Vec<Tile<'p>>, All
     Ok(tiles)
 }
 
-/// Whether these are the same stretches.
-fn are_stretches(stretches: &[KeptStretch<'_>], others: &[KeptStretch<'_>]) -> bool {
-    if stretches.len() != others.len() {
-        return false;
-    }
-    for (stretch, other) in stretches.iter().zip(others) {
-        if !stretch.same(other) {
-            return false;
-        }
-    }
-    true
-}
-
 /// Whether a tile is another one, as it says itself and part by part; false tells nothing.
 fn is_tile(tile: &Tile<'_>, other: &Tile<'_>) -> bool
     ensures { IsTrue result → tile.now ≡ other.now }
@@ -185,7 +172,7 @@ fn is_tile(tile: &Tile<'_>, other: &Tile<'_>) -> bool
         && tile.status() == other.status()
         && tile.stop() == other.stop()
         && tile.first_mark().same(other.first_mark())
-        && are_stretches(tile.stretches(), other.stretches())
+        && tile.stretches().same(other.stretches())
         && tile.mark().same(other.mark())
 }
 

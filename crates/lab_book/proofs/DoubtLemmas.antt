@@ -102,6 +102,6 @@ module _ (t u : TileValue) (tile : u ≡ t) (a e : StateValue) (test : Bool) (te
 pub retract_fine : (t : TileValue) → 0 < length t.stretches → Doubted None (retract_fault t)
 retract_fine t l = rw (last_some t.stretches l) (inr refl)
 
-pub not_empty : (xs ys : List StretchValue) (empty : Bool) → xs ≡ ys → empty ≡ (length xs == 0) → empty ≡ false → 0 < length ys
-not_empty [] ys empty e h f = absurd (false≢true (sym f ∙ h))
+pub not_empty : (xs ys : List StretchValue) (empty : Bool) → xs ≡ ys → IsTrue empty ↔ (xs ≡ []) → empty ≡ false → 0 < length ys
+not_empty [] ys empty e h f = absurd (false≢true (sym f ∙ h.1 refl))
 not_empty (x ∷ xs) ys empty e h f = let l = ap (length {A = StretchValue}) e in omega arith

@@ -1,6 +1,6 @@
 -- What the posted stretches count, tile by tile: where all tiles are closed, what is counted from the first mark to the end.
-use Rattle.std.proofs.Common.{◌≡◌, ℕ, zero, suc, ◌+◌, ◌*◌, ◌<◌, ◌≤◌, ◌⊎◌, ◌==◌, true, false, Option, List, [], ◌∷◌, ◌++◌, length}
-use Rattle.std.proofs.Common.{drop, map, take, get_or, replicate, refl, sym, ap, ap₂, ◌∙◌, inl, inr, arith}
+use Rattle.std.proofs.Common.{◌≡◌, ℕ, zero, suc, ◌+◌, ◌-◌, ◌*◌, ◌<◌, ◌≤◌, ◌⊎◌, ◌==◌, true, false, Option, Some, List, [], ◌∷◌, ◌++◌, length, slice_get}
+use Rattle.std.proofs.Common.{drop, map, take, get_or, replicate, refl, sym, ap, subst, ap₂, ◌∙◌, inl, inr, arith}
 use Rattle.std.specs.Prelude.{All}
 use Rattle.std.specs.List.{sum_by}
 use Rattle.std.proofs.Math.ListN.{set}
@@ -18,7 +18,7 @@ use Rattle.cover_problem.proofs.NumberLemmas.{length-numbers}
 use Rattle.x_steps.proofs.BetweenLemmas.{steps_between_self, steps_between_join, states_between_self, level_count_between, levels_at}
 use Rattle.x_steps.proofs.BetweenLemmas.{counts_at}
 use Rattle.x_steps.proofs.ZeroLemmas.{zeros_cut}
-use Rattle.x_codes.specs.StateCode.{choice_of}
+use Rattle.x_codes.specs.StateCode.{choice_of, later, path_of}
 use Rattle.x_branches.specs.declared.branch.Branch.{Branch}
 use Rattle.x_branches.specs.Branch.{end_of}
 use Rattle.x_branches.specs.Cut.{CutPath}
@@ -27,6 +27,7 @@ use Rattle.x_branches.proofs.PostingLemmas.{counts_fit}
 use Rattle.lab_book.specs.Tile.{TileValue, IsTile, Join}
 use Rattle.lab_book.specs.Tiling.{AreTiles, IsTiling}
 use Rattle.lab_book.specs.Posted.{AllClosed, posted_count, posted_level, posted_levels, posted_steps, stretch_level, stretch_steps}
+use Rattle.lab_book.proofs.TileLemmas.{at_place}
 use Rattle.lab_book.proofs.PostedLemmas.{closed_is}
 
 add-zero : (n : ℕ) → n + 0 ≡ n
@@ -89,7 +90,7 @@ pub record AreAdded (old counts new : List ℕ) : Type 0 where
   pub small : (level : ℕ) → get_or new level 0 ≤ get_or old level 0 + 4294967295
 
 -- the total at a level is the old one until its count is added
-pub added_here : (old counts new : List ℕ) (i : ℕ) → AreAdded old (take i counts) new → get_or new i 0 ≡ get_or old i 0
+added_here : (old counts new : List ℕ) (i : ℕ) → AreAdded old (take i counts) new → get_or new i 0 ≡ get_or old i 0
 added_here old counts new i a =
     let s = a.sums i in
     let e : get_or (take i counts) i 0 ≡ 0 = get_or_past (take i counts) i 0 (let l = length-take-most i counts in l) in omega arith
@@ -113,7 +114,7 @@ taken_before xs i k h l = let n : i + 1 ≡ suc i = omega arith in rw n (each xs
 taken_at : (xs : List ℕ) (i : ℕ) → i < length xs → get_or (take (i + 1) xs) i 0 ≡ get_or xs i 0
 taken_at xs i l = get_or-take (i + 1) xs i 0 (omega arith)
 
-pub added_more : (old counts new : List ℕ) (i : ℕ) → AreAdded old (take i counts) new → i < length counts → length counts ≤ length old
+added_more : (old counts new : List ℕ) (i : ℕ) → AreAdded old (take i counts) new → i < length counts → length counts ≤ length old
     → get_or counts i 0 ≤ 4294967295 → AreAdded old (take (i + 1) counts) (set new i (get_or new i 0 + get_or counts i 0))
 added_more old counts new i a l m s = record {
   long = length-set new i (get_or new i 0 + get_or counts i 0) ∙ a.long;
@@ -147,7 +148,7 @@ read_at [] (suc i) n rest e = absurd (cc)
 read_at (m ∷ counts) zero n rest e = (omega arith, let h : m ≡ n = cc in ap choice_of h)
 read_at (m ∷ counts) (suc i) n rest e = let r = read_at counts i n rest e in (let l = r.0 in omega arith, r.1)
 
-pub read_on : (counts : List ℕ) (i n : ℕ) (rest : List ℕ) → drop i counts ≡ n ∷ rest → rest ≡ drop (i + 1) counts
+read_on : (counts : List ℕ) (i n : ℕ) (rest : List ℕ) → drop i counts ≡ n ∷ rest → rest ≡ drop (i + 1) counts
 read_on counts i n rest e = let k : i + 1 ≡ suc i = omega arith in rw k (each counts i e)
   where
     each : (counts : List ℕ) (i : ℕ) → drop i counts ≡ n ∷ rest → rest ≡ drop (suc i) counts
@@ -157,13 +158,13 @@ read_on counts i n rest e = let k : i + 1 ≡ suc i = omega arith in rw k (each 
     each (m ∷ counts) (suc i) e = each counts i e
 
 -- all are read where none is left
-pub read_whole : (counts : List ℕ) (i : ℕ) → drop i counts ≡ [] → take i (map choice_of counts) ≡ map choice_of counts
+read_whole : (counts : List ℕ) (i : ℕ) → drop i counts ≡ [] → take i (map choice_of counts) ≡ map choice_of counts
 read_whole [] zero e = refl
 read_whole [] (suc i) e = refl
 read_whole (m ∷ counts) zero e = absurd (cc)
 read_whole (m ∷ counts) (suc i) e = ap (λ ns. choice_of m ∷ ns) (read_whole counts i e)
 
-pub added_next : (old counts new : List ℕ) (i n : ℕ) (rest : List ℕ) → drop i counts ≡ n ∷ rest
+added_next : (old counts new : List ℕ) (i n : ℕ) (rest : List ℕ) → drop i counts ≡ n ∷ rest
     → AreAdded old (take i (map choice_of counts)) new → length counts ≤ length old
     → AreAdded old (take (i + 1) (map choice_of counts)) (set new i (get_or new i 0 + choice_of n))
 added_next old counts new i n rest e a l =
@@ -172,6 +173,75 @@ added_next old counts new i n rest e a l =
     let w = r.0 in
     let small : choice_of n ≤ 4294967295 = omega arith in
     rw (← r.1) (added_more old (map choice_of counts) new i a (omega arith) (omega arith) (rw r.1 small))
+
+-- ---- as many as the number before them says
+
+pub told : List ℕ → List ℕ
+told ns = take (get_or ns 0 0) (later ns)
+
+pub told_is : (ns : List ℕ) → path_of ns ≡ map choice_of (told ns)
+unfolding path_of told
+told_is ns = refl
+
+cut_next : (m : ℕ) (xs : List ℕ) (i n : ℕ) (rest : List ℕ) → i < m → drop i xs ≡ n ∷ rest → drop i (take m xs) ≡ n ∷ take (m - (i + 1)) rest
+cut_next zero xs i n rest l e = absurd (omega arith)
+cut_next (suc m) [] zero n rest l e = absurd (cc)
+cut_next (suc m) [] (suc i) n rest l e = absurd (cc)
+cut_next (suc m) (x ∷ xs) zero n rest l e =
+    let h : x ≡ n = cc in let r : xs ≡ rest = cc in let k : m ≡ suc m - (0 + 1) = omega arith in (λ j. h j ∷ take (k j) (r j))
+cut_next (suc m) (x ∷ xs) (suc i) n rest l e =
+    let k : m - (i + 1) ≡ suc m - (suc i + 1) = omega arith in cut_next m xs i n rest (omega arith) e ∙ ap (λ o. n ∷ take o rest) k
+
+cut_none : (m : ℕ) (xs : List ℕ) (i : ℕ) → drop i xs ≡ [] → drop i (take m xs) ≡ []
+cut_none zero xs zero e = refl
+cut_none zero xs (suc i) e = refl
+cut_none (suc m) [] i e = e
+cut_none (suc m) (x ∷ xs) zero e = absurd (cc)
+cut_none (suc m) (x ∷ xs) (suc i) e = cut_none m xs i e
+
+cut_all : (m : ℕ) (xs : List ℕ) → drop m (take m xs) ≡ []
+cut_all zero xs = refl
+cut_all (suc m) [] = refl
+cut_all (suc m) (x ∷ xs) = cut_all m xs
+
+-- what is added of the counts that a list tells, and what is left of them
+pub record AreRead (ns : List ℕ) (old new : List ℕ) (level left : ℕ) (rest : List ℕ) : Type 0 where
+  pub added : AreAdded old (take level (map choice_of (told ns))) new
+  pub rest_is : rest ≡ drop level (later ns)
+  pub left_is : left + level ≡ get_or ns 0 0
+
+pub read_next : (ns old new : List ℕ) (level left n : ℕ) (row rest : List ℕ) → AreRead ns old new level left row → 0 < left → row ≡ n ∷ rest
+    → length (path_of ns) ≤ length old → AreRead ns old (set new level (get_or new level 0 + choice_of n)) (level + 1) (left - 1) rest
+unfolding told
+read_next ns old new level left n row rest a l e f =
+    let next = sym a.rest_is ∙ e in
+    let m = ap length (told_is ns) in let k = length-map (told ns) choice_of in let s = a.left_is in
+    record {
+      added = added_next old (told ns) new level n _ (cut_next (get_or ns 0 0) (later ns) level n rest (omega arith) next) a.added (omega arith);
+      rest_is = read_on (later ns) level n rest next;
+      left_is = omega arith;
+    }
+
+-- there is a total for the next count
+pub level_within : (ns old new : List ℕ) (level left n : ℕ) (row rest : List ℕ) → AreRead ns old new level left row → 0 < left → row ≡ n ∷ rest
+    → length (path_of ns) ≤ length old → level < length new
+unfolding told
+level_within ns old new level left n row rest a l e f =
+    let next = sym a.rest_is ∙ e in
+    let m = ap length (told_is ns) in let k = length-map (told ns) choice_of in let s = a.left_is in
+    let r = (read_at (told ns) level n _ (cut_next (get_or ns 0 0) (later ns) level n rest (omega arith) next)).0 in
+    let w = a.added.long in omega arith
+
+pub all_read : (ns old new : List ℕ) (level left : ℕ) (row : List ℕ) → AreRead ns old new level left row → (left ≡ 0) ⊎ (row ≡ [])
+    → AreAdded old (path_of ns) new
+unfolding told
+all_read ns old new level left row a d =
+    subst (λ (xs : List ℕ). AreAdded old xs new) (read_whole (told ns) level (end d) ∙ sym (told_is ns)) a.added
+  where
+    end : (left ≡ 0) ⊎ (row ≡ []) → drop level (told ns) ≡ []
+    end (inl z) = let s = a.left_is in let k : level ≡ get_or ns 0 0 = omega arith in
+        ap (λ i. drop i (told ns)) k ∙ cut_all (get_or ns 0 0) (later ns)
+    end (inr z) = cut_none (get_or ns 0 0) (later ns) level (sym a.rest_is ∙ z)
 
 zero_at : (n k : ℕ) → get_or (replicate {A = ℕ} n 0) k 0 ≡ 0
 zero_at zero k = refl
@@ -225,6 +295,17 @@ module _ (xs : List StretchValue) (i : ℕ) (x : StretchValue) (old mid new coun
 pub record AreSteps (xs : List StretchValue) (steps : ℕ) : Type 0 where
   pub sum : steps ≡ stretch_steps xs
   pub small : steps ≤ 4294967295 * length xs
+
+-- those of one stretch more
+pub steps_next : (xs : List StretchValue) (i : ℕ) (x : StretchValue) (steps told : ℕ) → AreSteps (take i xs) steps → slice_get xs i ≡ Some x
+    → told ≡ steps_between x.problem x.from x.to → told ≤ 4294967295 → AreSteps (take (i + 1) xs) (steps + told)
+steps_next xs i x steps told a e t b =
+    let p = at_place xs i x e in let l = p.0 in
+    let m = sum_by_more (λ (x : StretchValue). steps_between x.problem x.from x.to) xs i x l in
+    let o = ap (λ (y : StretchValue). steps_between y.problem y.from y.to) p.1 in
+    let u = length-take-le i xs (omega arith) in let v = length-take-le (i + 1) xs (omega arith) in
+    let s = a.sum in let r = a.small in
+    record { sum = omega arith; small = omega arith }
 
 -- and of tiles
 pub record AreStepsOf (ts : List TileValue) (steps : ℕ) : Type 0 where

@@ -1,10 +1,11 @@
 -- Marks of tiles, the test of states, and what posting a stretch keeps.
 use Rattle.std.proofs.Common.{◌≡◌, ℕ, zero, suc, ◌-◌, ◌<◌, ◌≤◌, ◌==◌, Bool, true, false, ◌&&◌, Some, None, List, [], ◌∷◌, ◌++◌, length}
-use Rattle.std.proofs.Common.{take, get_or, refl, sym, ap, ◌∙◌, subst, arith, eq-eqb, eqb-true, bytes_eq, ◌+◌, ◌⊎◌, inl, inr}
+use Rattle.std.proofs.Common.{take, get_or, slice_get, refl, sym, ap, ◌∙◌, subst, arith, eq-eqb, eqb-true, bytes_eq, ◌+◌, ◌⊎◌, inl, inr}
 use Rattle.std.specs.Prelude.{◌↔◌, IsTrue, is_some, if◌then◌else◌}
 use Rattle.std.specs.Cmp.Lexicographic.{bytes_decides}
 use Rattle.std.proofs.lemmas.Bool.{and_parts, and_from, false≢true, false_from_ne_true, cases_lt}
 use Rattle.std.proofs.lemmas.List.{take_more}
+use Rattle.std.proofs.lemmas.Option.{slice_get_within, get_or_from_slice_get}
 use Rattle.cover_problem.specs.Problem.{ProblemValue}
 use Rattle.x_steps.specs.declared.state.Label.{Label}
 use Rattle.x_steps.specs.declared.state.Label.TheVariants.{X1, X2, X3, X4, X5, X6, X7, X8, Done}
@@ -253,6 +254,10 @@ mark_missed s m (x ∷ xs) each =
     rw (each 0 (omega arith), mark_missed s x.to xs (λ k b. each (suc k) (omega arith))) refl
 
 -- where the stretches up to a place lead
+-- the stretch at a place
+pub at_place : (xs : List StretchValue) (i : ℕ) (x : StretchValue) → slice_get xs i ≡ Some x → (i < length xs) × (x ≡ get_or xs i x)
+at_place xs i x e = (slice_get_within xs i x e, sym (get_or_from_slice_get xs i x x e))
+
 pub led_more : (s : StateValue) (xs : List StretchValue) (i : ℕ) (x : StretchValue) → i < length xs → x ≡ get_or xs i x
     → led_to s (take (i + 1) xs) ≡ x.to
 led_more s xs i x l e = ap (led_to s) (take_more xs i x l) ∙ mark_push s (take i xs) (get_or xs i x)

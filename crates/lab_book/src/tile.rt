@@ -17,7 +17,7 @@ use cover_problem::Lists;
 use lab_history::Mark;
 use std::alloc::{AllocError, Global};
 use std::marker::Model;
-use x_branches::{Branch, Cut, KeptStretch, Stretch};
+use x_branches::{Branch, Cut, KeptStretches, Stretch};
 use x_steps::{Cursor, Label, State};
 
 /// The parts of a tile.
@@ -30,7 +30,7 @@ struct Parts<'p> {
     status: Status,
     stop: bool,
     first: Mark,
-    stretches: Vec<KeptStretch<'p>>,
+    stretches: KeptStretches<'p>,
     /// Where the stretches end.
     mark: Mark,
 }
@@ -54,10 +54,10 @@ impl<'p> Model for Tile<'p> {
       status = t.parts.value.status;
       stop = t.parts.value.stop;
       first = t.parts.value.first;
-      stretches = t.parts.value.stretches.items;
+      stretches = t.parts.value.stretches;
     } };
 
-    ghost invariant = { λ t. KeepsTile t.parts.value.branch t.parts.value.first t.parts.value.stretches.items
+    ghost invariant = { λ t. KeepsTile t.parts.value.branch t.parts.value.first t.parts.value.stretches
         t.parts.value.end t.parts.value.mark };
 }
 
@@ -95,7 +95,7 @@ fn mark_place(
     alloc: Global,
     state: &State,
     first: &State,
-    stretches: &[KeptStretch<'_>],
+    stretches: &KeptStretches<'_>,
 ) -> Result<Option<usize>, AllocError>
     ensures place { IfOk result (LeadTo state.now (state_value first.now) stretches.now) }
     ensures within { IfOk result (λ place. IfSome place (λ n. n ≤ length stretches.now)) }
@@ -104,9 +104,9 @@ fn mark_place(
     if state.same(first) {
         return Ok(Some(0));
     }
-    for (place, stretch) in stretches.iter().enumerate() {
+    for place in 0..stretches.len() {
         // A kept stretch is packed: its end is made again, and that takes memory.
-        let mark = stretch.to(alloc)?;
+        let mark = stretches.stretch(place).to(alloc)?;
         if state.same(&mark) {
             return Ok(Some(place + 1));
         }
@@ -114,33 +114,18 @@ fn mark_place(
     Ok(None)
 }
 
-/// Whether these are the same stretches; false tells nothing.
-fn are_same(stretches: &[KeptStretch<'_>], others: &[KeptStretch<'_>]) -> bool
-    ensures { IsTrue result → stretches.now ≡ others.now }
-{
-    if stretches.len() != others.len() {
-        return false;
-    }
-    'comparing: for k in 0..stretches.len() {
-        if !stretches[k].same(&others[k]) {
-            return false;
-        }
-    }
-    true
-}
-
 impl<'p> Tile<'p> {
     /// The tile of these parts.
     fn of(alloc: Global, parts: Parts<'p>) -> Result<Tile<'p>, AllocError>
         requires end { parts.end ≡ end_of parts.branch.hi }
-        requires mark { parts.mark ≡ led_to parts.first parts.stretches.items }
+        requires mark { parts.mark ≡ led_to parts.first parts.stretches }
         ensures { IfOk result (λ tile. tile ≡ record {
           id = parts.entry.id;
           branch = parts.entry.branch;
           status = parts.entry.status;
           stop = parts.entry.stop;
           first = parts.entry.first;
-          stretches = parts.entry.stretches.items;
+          stretches = parts.entry.stretches;
         }) }
     {
         let parts = Box::new(alloc, parts)?;
@@ -157,7 +142,7 @@ impl<'p> Tile<'p> {
             && self.stop() == other.stop()
             && self.branch().same(other.branch())
             && self.parts.first.same(&other.parts.first)
-            && are_same(self.stretches(), other.stretches())
+            && self.stretches().same(other.stretches())
     }
 
     /// The one tile of a new book: it waits at its first mark.
@@ -180,7 +165,7 @@ impl<'p> Tile<'p> {
                 status: Status::Waiting,
                 stop: false,
                 first,
-                stretches: Vec::new(alloc),
+                stretches: KeptStretches::new(alloc),
                 mark,
             },
         )
@@ -236,10 +221,15 @@ impl<'p> Tile<'p> {
     }
 
     /// The stretches that were posted, in order.
-    pub fn stretches(&self) -> &[KeptStretch<'p>]
+    pub fn stretches(&self) -> &KeptStretches<'p>
         ensures { result.now ≡ self.now.stretches }
     {
         &self.parts.stretches
+    }
+
+    /// What gives it memory.
+    fn allocator(&self) -> Global {
+        *self.first_mark().path.allocator()
     }
 
     /// Where the posted stretches end.
@@ -276,12 +266,7 @@ impl<'p> Tile<'p> {
             return Err(stretch);
         };
         let parts = &mut *self.parts;
-        // Room before the stretch is packed, since a packed one could not go back to the caller.
-        if parts.stretches.reserve(1).is_err() {
-            return Err(stretch);
-        }
-        let stretch = KeptStretch::of(stretch)?;
-        parts.stretches.push_reserved(stretch);
+        parts.stretches.push(stretch)?;
         parts.mark = mark;
         Ok(())
     }
@@ -294,8 +279,7 @@ impl<'p> Tile<'p> {
         if count == 0 {
             return self.parts.first.copy();
         }
-        let alloc = *self.parts.stretches.allocator();
-        let mark = self.stretches()[count - 1].to(alloc)?;
+        let mark = self.stretches().stretch(count - 1).to(self.allocator())?;
         Ok(Mark::from(mark))
     }
 
@@ -305,9 +289,8 @@ impl<'p> Tile<'p> {
         ensures stretch { IfOk result (λ last. last_stretch self.now.stretches ≡ Some last.0) }
         ensures mark { IfOk result (λ last. last.1 ≡ mark_of (retracted_tile self.now)) }
     {
-        let alloc = *self.parts.stretches.allocator();
         let count = self.stretches().len() - 1;
-        let stretch = self.stretches()[count].open(alloc)?;
+        let stretch = self.stretches().stretch(count).open(self.allocator())?;
         let mark = self.mark_after(count)?;
         Ok((stretch, mark))
     }
@@ -339,17 +322,18 @@ impl<'p> Tile<'p> {
         ensures place { IfOk result (LeadTo state.now self.now.first self.now.stretches) }
         ensures within { IfOk result (λ place. IfSome place (λ n. n ≤ length self.now.stretches)) }
     {
-        let alloc = *self.parts.stretches.allocator();
-        mark_place(alloc, state, self.first_mark(), self.stretches())
+        mark_place(self.allocator(), state, self.first_mark(), self.stretches())
     }
 
     /// Adds the paths that its stretches visit; where memory runs out, some may be there.
     pub(crate) fn add_visits(&self, visits: &mut Lists) -> Result<(), AllocError>
         ensures { OnOk result (visits.new ≡ visits.old ++ stretch_visits self.now.stretches) }
     {
-        let alloc = *self.parts.stretches.allocator();
-        for stretch in self.stretches() {
-            stretch.add_visits(alloc, visits)?;
+        let stretches = self.stretches();
+        for place in 0..stretches.len() {
+            stretches
+                .stretch(place)
+                .add_visits(self.allocator(), visits)?;
         }
         Ok(())
     }

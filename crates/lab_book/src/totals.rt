@@ -1,6 +1,6 @@
 //! Totals for each level.
-ghost use Rattle.std.specs.Prelude.{◌≡◌, ◌≤◌, ◌+◌, ℕ, IfOk, length, map, replicate, slice_index};
-ghost use Rattle.x_codes.specs.StateCode.{choice_of};
+ghost use Rattle.std.specs.Prelude.{◌≡◌, ◌≤◌, ◌+◌, ℕ, IfOk, length, replicate, slice_index};
+ghost use Rattle.x_codes.specs.StateCode.{path_of};
 ghost use Rattle.x_branches.specs.Refusals.{most_steps};
 ghost use Rattle.lab_book.specs.Posted.{HaveRoom};
 
@@ -16,20 +16,25 @@ pub(crate) fn no_totals(alloc: Global, items: u32) -> Result<Vec<u128>, AllocErr
     vec![in alloc; 0u128; items as usize + 1]
 }
 
-/// Adds to each total its count, as far as there are counts.
+/// Adds to each total its count, as far as there are counts: first their number is read, and then each.
 pub(crate) fn add_counts(totals: &mut [u128], counts: Reader<'_>)
-    requires levels { length counts ≤ length totals.old }
+    requires levels { length (path_of counts) ≤ length totals.old }
     requires room { HaveRoom totals.old most_steps }
     ensures levels { length totals.new ≡ length totals.old }
     ensures sums { (k : ℕ) → slice_index totals.new k ≡
-        slice_index totals.old k + slice_index (map choice_of counts.entry) k }
+        slice_index totals.old k + slice_index (path_of counts.entry) k }
     ensures small { (k : ℕ) → slice_index totals.new k ≤ slice_index totals.old k + most_steps }
 {
     let mut counts = counts;
+    let mut left = counts.number();
     let mut level = 0;
     // A stretch keeps no level behind the last that it reached, so the counts may end before the totals.
-    'adding: while let Some(count) = counts.next() {
+    'adding: while left > 0 {
+        let Some(count) = counts.next() else {
+            return;
+        };
         totals[level] += choice(count) as u128;
         level += 1;
+        left -= 1;
     }
 }

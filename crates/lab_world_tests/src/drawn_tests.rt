@@ -122,7 +122,7 @@ fn is_at(state: &State, path: &[u32], label: Label) -> bool {
 }
 
 /// Whether a stretch begins at a state.
-fn is_from(alloc: Global, stretch: &KeptStretch<'_>, state: &State) -> bool {
+fn is_from(alloc: Global, stretch: &KeptStretch<'_, '_>, state: &State) -> bool {
     match stretch.from(alloc) {
         Ok(from) => from.same(state),
         Err(_) => false,
@@ -130,7 +130,7 @@ fn is_from(alloc: Global, stretch: &KeptStretch<'_>, state: &State) -> bool {
 }
 
 /// Where a stretch ends, if it begins at a state.
-fn end_from(alloc: Global, stretch: &KeptStretch<'_>, state: &State) -> Option<State> {
+fn end_from(alloc: Global, stretch: &KeptStretch<'_, '_>, state: &State) -> Option<State> {
     if !is_from(alloc, stretch, state) {
         return None;
     }
@@ -145,8 +145,8 @@ fn are_joined(alloc: Global, tile: &Tile<'_>) -> bool {
     let Ok(mut end) = tile.first_mark().copy() else {
         return false;
     };
-    for stretch in tile.stretches() {
-        match end_from(alloc, stretch, &end) {
+    for place in 0..tile.stretches().len() {
+        match end_from(alloc, &tile.stretches().stretch(place), &end) {
             Some(to) => end = to,
             None => return false,
         }

@@ -1,4 +1,4 @@
-//! Tests of `lab_book` and `lab_world`: books and worlds of the small problem, row by row, and drawn events on drawn problems.
+//! Tests of `lab_history`, `lab_book` and `lab_world`: books and worlds of the small problem, row by row, and drawn events on drawn problems.
 #![tactic(auto)]
 
 #[cfg(test)]

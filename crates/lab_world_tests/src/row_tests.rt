@@ -109,7 +109,7 @@ fn add_levels(parts: &mut Vec<u64>, levels: &[u32]) -> bool {
 }
 
 /// Adds the steps of a stretch, how many it visits, and its levels.
-fn add_stretch(alloc: Global, parts: &mut Vec<u64>, stretch: &KeptStretch<'_>) -> bool {
+fn add_stretch(alloc: Global, parts: &mut Vec<u64>, stretch: &KeptStretch<'_, '_>) -> bool {
     let counts = [stretch.steps() as u64, stretch.visited()];
     if parts.extend_from_slice(&counts).is_err() {
         return false;
@@ -125,8 +125,8 @@ fn add_parts(alloc: Global, parts: &mut Vec<u64>, tile: &Tile<'_>) -> bool {
     if parts.push(tile.id()).is_err() {
         return false;
     }
-    for stretch in tile.stretches() {
-        if !add_stretch(alloc, parts, stretch) {
+    for place in 0..tile.stretches().len() {
+        if !add_stretch(alloc, parts, &tile.stretches().stretch(place)) {
             return false;
         }
     }

@@ -7,6 +7,7 @@ pub mod MarkLemmas
 pub mod RunnerLemmas
 pub mod AboveLemmas
 pub mod UntriedLemmas
+pub mod KeptLemmas
 pub mod PostingLemmas
 pub mod WalkedLemmas
 pub mod FirstLemmas

@@ -98,27 +98,27 @@ none_counted h = let l : 0 < 0 = h refl in omega arith
 
 -- from X2 to X8 at the path 4 5 1, with one visit, and one X2 state at level 3
 abbrev row : List ℕ
-row = 2 ∷ 0 ∷ 0 ∷ 3 ∷ 4 ∷ 5 ∷ 1 ∷ 8 ∷ 0 ∷ 0 ∷ 3 ∷ 4 ∷ 5 ∷ 1 ∷ 1 ∷ 3 ∷ 4 ∷ 5 ∷ 1 ∷ 0 ∷ 0 ∷ 0 ∷ 1 ∷ []
+row = 1 ∷ 3 ∷ 4 ∷ 5 ∷ 1 ∷ 4 ∷ 0 ∷ 0 ∷ 0 ∷ 1 ∷ 2 ∷ 0 ∷ 0 ∷ 3 ∷ 4 ∷ 5 ∷ 1 ∷ 8 ∷ 0 ∷ 0 ∷ 3 ∷ 4 ∷ 5 ∷ 1 ∷ []
 
 its_from : (kept_value small row).from ≡ at X2 (4 ∷ 5 ∷ 1 ∷ []) cursor.None
-unfolding state_of path_of
+unfolding state_of path_of path_rest paths_rest after_paths
 its_from = refl
 
 its_to : (kept_value small row).to ≡ at X8 (4 ∷ 5 ∷ 1 ∷ []) cursor.None
-unfolding state_of path_of state_rest path_rest
+unfolding state_of path_of state_rest path_rest paths_rest after_paths
 its_to = refl
 
 its_visits : kept_visits row ≡ (4 ∷ 5 ∷ 1 ∷ []) ∷ []
-unfolding state_rest path_rest paths_of paths_at path_of
+unfolding path_rest paths_of paths_at path_of
 its_visits = refl
 
 its_levels : kept_levels row ≡ 0 ∷ 0 ∷ 0 ∷ 1 ∷ []
-unfolding state_rest path_rest paths_rest after_paths
+unfolding path_of path_rest paths_rest after_paths
 its_levels = refl
 
 -- it is that one step, which visits 4 5 1
 step_there : next small (kept_value small row).from ≡ (kept_value small row).to
-unfolding next state_of path_of state_rest path_rest covered_by taken choice active remaining
+unfolding next state_of path_of state_rest path_rest paths_rest after_paths covered_by taken choice active remaining
 step_there = refl
 
 -- ---- specs/Walk.antt

@@ -1,15 +1,15 @@
 -- A stretch: the part of a problem's run from one state up to another, without that one (`StretchValue`, `IsStretch`), what is kept of it
--- (`KeepsStretch`), and it as a row of numbers (`kept_value`, `kept_visits`, `kept_levels`, `KeepsRow`).
+-- (`KeepsStretch`), it as a row of numbers (`kept_value`, `kept_visits`, `kept_levels`, `KeepsRow`), and many (`kept_values`, `KeepsRows`).
 --
--- Example: the step from X2 to X8 with the path 4 5 1, a visit of the small problem, is the row 2 0 0 3 4 5 1, 8 0 0 3 4 5 1, then 1 3 4 5
--- 1 for one visit of three choices, and 0 0 0 1 for one X2 state at level 3. proofs/RunnerExamples.antt computes it.
-use Rattle.std.specs.Prelude.{◌≡◌, ℕ, List, map}
+-- Example: the step from X2 to X8 with the path 4 5 1, a visit of the small problem, is the row 1 3 4 5 1 for one visit of three choices, 4 0
+-- 0 0 1 for one X2 state at level 3, and then 2 0 0 3 4 5 1 and 8 0 0 3 4 5 1. proofs/RunnerExamples.antt computes it.
+use Rattle.std.specs.Prelude.{◌≡◌, ℕ, List, [], ◌∷◌, ⊤}
 use Rattle.cover_problem.specs.Problem.{ProblemValue}
 use Rattle.x_steps.specs.StateValue.{StateValue}
 use Rattle.x_steps.specs.Steps.{Fits}
 use Rattle.x_steps.specs.Run.{ReachesIn, steps_between, visits_between}
 use Rattle.x_steps.specs.Levels.{trimmed_levels}
-use Rattle.x_codes.specs.StateCode.{choice_of, state_of, state_rest, paths_of, paths_rest}
+use Rattle.x_codes.specs.StateCode.{path_of, path_rest, state_of, state_rest, paths_of, paths_rest}
 
 -- a problem, and two states of its run: what lies between them is a function of these
 pub record StretchValue : Type 0 where
@@ -37,23 +37,45 @@ pub record KeepsStretch (p : ProblemValue) (s t : StateValue) (steps : ℕ) (vis
   pub visits_are : visits ≡ visits_between p s t
   pub levels_are : levels ≡ trimmed_levels p s t
 
--- ---- a stretch as a row of numbers: its first state, the one that it leads to, its visits, and then how many X2 states there are at
--- each level
+-- ---- a stretch as a row of numbers: its visits, then how many X2 states there are at each level, its first state, and the one that it
+-- leads to
+
+-- what comes after the visits and the counts
+abbrev pub kept_ends : List ℕ → List ℕ
+kept_ends ns = path_rest (paths_rest ns)
 
 -- the stretch that a row tells, of a problem
 abbrev pub kept_value : ProblemValue → List ℕ → StretchValue
-kept_value p ns = record { problem = p; from = state_of ns; to = state_of (state_rest ns) }
+kept_value p ns = record { problem = p; from = state_of (kept_ends ns); to = state_of (state_rest (kept_ends ns)) }
 
 -- the visits that a row tells
 abbrev pub kept_visits : List ℕ → List (List ℕ)
-kept_visits ns = paths_of (state_rest (state_rest ns))
+kept_visits ns = paths_of ns
 
 -- and the counts
 abbrev pub kept_levels : List ℕ → List ℕ
-kept_levels ns = map choice_of (paths_rest (state_rest (state_rest ns)))
+kept_levels ns = path_of (paths_rest ns)
 
 -- a row with the steps of the stretch that it tells
 abbrev pub KeepsRow : ProblemValue → List ℕ → ℕ → Type 0
 KeepsRow p ns steps =
     let x = kept_value p ns in
     KeepsStretch p x.from x.to steps (kept_visits ns) (kept_levels ns)
+
+-- ---- many stretches
+
+-- what stands beside the row of a stretch
+pub record HeadValue : Type 0 where
+  pub problem : ProblemValue
+  pub steps : ℕ
+
+-- the stretches that rows tell, each with what stands beside it
+abbrev pub kept_values : List HeadValue → List (List ℕ) → List StretchValue
+kept_values (h ∷ hs) (ns ∷ rows) = kept_value h.problem ns ∷ kept_values hs rows
+kept_values _ _ = []
+
+-- there are as many rows, each with the steps of its stretch
+abbrev pub KeepsRows : List HeadValue → List (List ℕ) → Type 0
+KeepsRows [] [] = ⊤
+KeepsRows (h ∷ hs) (ns ∷ rows) = KeepsRow h.problem ns h.steps × KeepsRows hs rows
+KeepsRows _ _ = ⊥

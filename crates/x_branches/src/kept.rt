@@ -1,97 +1,240 @@
 //! Stretches in few bytes, as one keeps them who has many.
-ghost use Rattle.std.specs.Prelude.{◌≡◌, ◌++◌, IfOk, IfErr, OnOk, IsTrue, length, map};
+ghost use Rattle.std.specs.Prelude.{◌≡◌, ◌↔◌, ◌++◌, ◌∷◌, [], ◌<◌, ◌≤◌, ◌-◌, IfOk, IfErr, OnOk, OnErr, IsTrue, Some, length, take, slice_get};
+ghost use Rattle.cover_problem.specs.Answers.{Returns, ReturnsItems};
 ghost use Rattle.x_steps.specs.StateView.{state_value};
 ghost use Rattle.x_steps.specs.Run.{steps_between};
-ghost use Rattle.x_codes.specs.StateCode.{choice_of, state_of, state_rest};
-ghost use Rattle.x_branches.specs.Stretch.{kept_levels, kept_visits, visits_of_stretch, levels_of_stretch};
+ghost use Rattle.x_codes.specs.StateCode.{path_of};
+ghost use Rattle.x_branches.specs.Stretch.{KeepsRow, kept_value, kept_ends, kept_levels, kept_visits, visits_of_stretch, levels_of_stretch};
 
 use crate::stretch::Stretch;
 use cover_problem::{Lists, Problem};
-use packed_rows::{Reader, Row};
+use packed_rows::{Reader, Row, Rows};
 use std::alloc::{AllocError, Global};
 use std::marker::Model;
 use x_codes::{
-    put_choices, put_paths, put_state, read_all, read_paths, read_state, skip_paths, skip_state,
+    put_path, put_paths, put_state, read_path, read_paths, read_state, skip_path, skip_paths,
+    skip_state,
 };
 use x_steps::State;
 
-/// A stretch whose states, visits and counts are numbers of a row: some hundred bytes in place of three hundred and sixty.
+/// What is kept of a stretch beside its row: telling it reads nothing.
 #[derive(Drop)]
-pub struct KeptStretch<'p> {
+struct Head<'p> {
     problem: &'p Problem,
-    /// Beside the row, so that telling it reads nothing.
     steps: u32,
-    /// Its first state, the one that it leads to, its visits, and how many X2 states there are at each level.
-    row: Row,
 }
 
-impl<'p> Model for KeptStretch<'p> {
+impl<'p> Model for Head<'p> {
+    ghost use Rattle.x_branches.specs.Stretch.{HeadValue};
+
+    ghost Value = { HeadValue };
+
+    ghost view = { λ h. record { problem = h.problem.now; steps = h.steps } };
+}
+
+/// Stretches whose visits, counts and states are numbers of rows, one row for each. Where a stretch begins as one before it ended, as
+/// those of one search do, the two share most of what tells it.
+#[derive(Drop)]
+pub struct KeptStretches<'p> {
+    heads: Vec<Head<'p>>,
+    /// Of each its visits, how many X2 states there are at each level, its first state, and the one that it leads to.
+    rows: Rows,
+}
+
+impl<'p> Model for KeptStretches<'p> {
+    ghost use Rattle.std.specs.Prelude.{List};
+    ghost use Rattle.x_branches.specs.Stretch.{StretchValue, KeepsRows, kept_values};
+
+    ghost Value = { List StretchValue };
+
+    ghost view = { λ s. kept_values s.heads.items s.rows.rows };
+
+    ghost invariant = { λ s. KeepsRows s.heads.items s.rows.rows };
+}
+
+/// A stretch that is kept among others, to be read.
+#[derive(Drop)]
+pub struct KeptStretch<'a, 'p> {
+    problem: &'p Problem,
+    steps: u32,
+    rows: &'a Rows,
+    place: usize,
+}
+
+impl<'a, 'p> Model for KeptStretch<'a, 'p> {
+    ghost use Rattle.std.specs.Prelude.{[], ◌<◌, length, slice_index_or};
     ghost use Rattle.x_branches.specs.Stretch.{StretchValue, KeepsRow, kept_value};
 
     ghost Value = { StretchValue };
 
-    ghost view = { λ s. kept_value s.problem.now s.row };
+    ghost view = { λ s. kept_value s.problem.now (slice_index_or s.rows.now.rows s.place []) };
 
-    ghost invariant = { λ s. KeepsRow s.problem.now s.row s.steps };
+    ghost invariant = { λ s. (s.place < length s.rows.now.rows)
+        × KeepsRow s.problem.now (slice_index_or s.rows.now.rows s.place []) s.steps };
 }
 
-/// A stretch's states, visits and counts as a row, in memory of just its size.
+/// A stretch's visits, counts and states as a row.
 fn packed(stretch: &Stretch<'_>) -> Result<Row, AllocError>
-    ensures from { IfOk result (λ row. state_of row ≡ stretch.now.from) }
-    ensures to { IfOk result (λ row. state_of (state_rest row) ≡ stretch.now.to) }
+    ensures ends { IfOk result (λ row. kept_value stretch.now.problem row ≡ stretch.now) }
     ensures visits { IfOk result (λ row. kept_visits row ≡ visits_of_stretch stretch.now) }
     ensures levels { IfOk result (λ row. kept_levels row ≡ levels_of_stretch stretch.now) }
 {
-    let visits = stretch.visits();
-    let levels = stretch.levels();
     let mut row = Row::new(*stretch.levels.allocator());
+    // The states go last: visits and counts are asked for of all stretches at once.
+    put_paths(&mut row, stretch.visits())?;
+    put_path(&mut row, stretch.levels())?;
     put_state(&mut row, stretch.from())?;
     put_state(&mut row, stretch.to())?;
-    put_paths(&mut row, visits)?;
-    put_choices(&mut row, levels)?;
-    // A row that grew has room to spare: its copy is what is kept.
-    let packed = row.copy()?;
-    Ok(packed)
+    Ok(row)
 }
 
-/// A row's numbers from the visits on.
-fn after_states(row: &Row) -> Reader<'_>
-    ensures { result ≡ state_rest (state_rest row.now) }
+/// What follows the counts in a row: its two states.
+fn ends(row: Reader<'_>) -> Reader<'_>
+    ensures { result ≡ kept_ends row.entry }
 {
-    let mut reader = row.reader();
-    skip_state(&mut reader);
-    skip_state(&mut reader);
+    let mut reader = row;
+    let _visited = skip_paths(&mut reader);
+    skip_path(&mut reader);
     reader
 }
 
-impl<'p> KeptStretch<'p> {
-    /// Keeps a stretch. Where memory runs out, it comes back.
-    pub fn of(stretch: Stretch<'p>) -> Result<KeptStretch<'p>, Stretch<'p>>
-        ensures kept { IfOk result (λ kept. kept ≡ stretch.entry) }
+/// Copies of heads.
+fn copied<'p>(alloc: Global, heads: &[Head<'p>]) -> Result<Vec<Head<'p>>, AllocError>
+    ensures { ReturnsItems result heads.now }
+{
+    let mut copies = Vec::with_capacity(alloc, heads.len())?;
+    'copying: for head in heads {
+        copies.push(Head {
+            problem: head.problem,
+            steps: head.steps,
+        })?;
+    }
+    Ok(copies)
+}
+
+impl<'p> KeptStretches<'p> {
+    /// No stretch.
+    pub fn new(alloc: Global) -> KeptStretches<'p>
+        ensures { result ≡ [] }
+    {
+        KeptStretches {
+            heads: Vec::new(alloc),
+            rows: Rows::new(alloc),
+        }
+    }
+
+    /// How many there are.
+    pub fn len(&self) -> usize
+        ensures { result ≡ length self.now }
+    {
+        self.rows.len()
+    }
+
+    /// Whether there is none.
+    pub fn is_empty(&self) -> bool
+        ensures { IsTrue result ↔ (self.now ≡ []) }
+    {
+        self.len() == 0
+    }
+
+    /// The stretch at a place.
+    pub fn stretch(&self, place: usize) -> KeptStretch<'_, 'p>
+        requires { place < length self.now }
+        ensures { slice_get self.now place ≡ Some result }
+    {
+        let head = &self.heads[place];
+        KeptStretch {
+            problem: head.problem,
+            steps: head.steps,
+            rows: &self.rows,
+            place,
+        }
+    }
+
+    /// Adds the row of a stretch, where there is room for its head.
+    fn add(&mut self, stretch: &Stretch<'p>) -> Result<(), AllocError>
+        ensures added { OnOk result (self.new ≡ self.old ++ stretch.now ∷ []) }
+        ensures unchanged { OnErr result (self.new ≡ self.old) }
+    {
+        let row = packed(stretch)?;
+        self.heads.reserve(1)?;
+        self.rows.push(&row)?;
+        self.heads.push_reserved(Head {
+            problem: stretch.problem,
+            steps: stretch.steps,
+        });
+        Ok(())
+    }
+
+    /// Adds a stretch. Where memory runs out, nothing changes and it comes back.
+    pub fn push(&mut self, stretch: Stretch<'p>) -> Result<(), Stretch<'p>>
+        ensures added { OnOk result (self.new ≡ self.old ++ stretch.entry ∷ []) }
+        ensures unchanged { OnErr result (self.new ≡ self.old) }
         ensures given_back { IfErr result (λ s. s ≡ stretch.entry) }
     {
         // Only lent up to here, so it can come back.
-        let Ok(row) = packed(&stretch) else {
-            return Err(stretch);
-        };
-        Ok(KeptStretch {
-            problem: stretch.problem,
-            steps: stretch.steps,
-            row,
-        })
+        match self.add(&stretch) {
+            Ok(()) => Ok(()),
+            Err(_) => Err(stretch),
+        }
     }
 
-    /// The stretch that is kept.
+    /// Takes the last one away.
+    pub fn pop(&mut self)
+        requires { 0 < length self.old }
+        ensures { self.new ≡ take (length self.old - 1) self.old }
+    {
+        let count = self.heads.len() - 1;
+        self.heads.truncate(count);
+        self.rows.pop();
+    }
+
+    /// Keeps the first ones alone.
+    pub fn truncate(&mut self, count: usize)
+        ensures { self.new ≡ take count self.old }
+    {
+        'taking: while self.len() > count {
+            self.pop();
+        }
+    }
+
+    /// Whether they are the same stretches of the same problems; false tells nothing.
+    pub fn same(&self, other: &KeptStretches<'_>) -> bool
+        ensures { IsTrue result → self.now ≡ other.now }
+    {
+        if self.len() != other.len() {
+            return false;
+        }
+        'comparing: for place in 0..self.len() {
+            if !self.stretch(place).same(&other.stretch(place)) {
+                return false;
+            }
+        }
+        true
+    }
+
+    /// The same stretches, in memory of their own.
+    pub fn copy(&self) -> Result<KeptStretches<'p>, AllocError>
+        ensures { Returns result self.now }
+    {
+        let rows = self.rows.copy()?;
+        let heads = copied(*self.heads.allocator(), &self.heads)?;
+        Ok(KeptStretches { heads, rows })
+    }
+}
+
+impl<'a, 'p> KeptStretch<'a, 'p> {
+    /// The stretch that is kept, whole.
     pub fn open(&self, alloc: Global) -> Result<Stretch<'p>, AllocError>
         ensures { IfOk result (λ stretch. stretch ≡ self.now) }
     {
-        let mut reader = self.row.reader();
+        let mut reader = self.rows.row(self.place);
         // In the order in which `packed` put them.
-        let from = read_state(alloc, &mut reader)?;
-        let to = read_state(alloc, &mut reader)?;
         let mut visits = Lists::new(alloc);
         read_paths(alloc, &mut reader, &mut visits)?;
-        let levels = read_all(alloc, &mut reader)?;
+        let levels = read_path(alloc, &mut reader)?;
+        let from = read_state(alloc, &mut reader)?;
+        let to = read_state(alloc, &mut reader)?;
         Ok(Stretch {
             problem: self.problem,
             from,
@@ -113,19 +256,16 @@ impl<'p> KeptStretch<'p> {
     pub fn from(&self, alloc: Global) -> Result<State, AllocError>
         ensures { IfOk result (λ state. state_value state ≡ self.now.from) }
     {
-        let mut reader = self.row.reader();
-        let from = read_state(alloc, &mut reader)?;
-        Ok(from)
+        read_state(alloc, &mut ends(self.rows.row(self.place)))
     }
 
     /// The state that it leads to, which isn't in it.
     pub fn to(&self, alloc: Global) -> Result<State, AllocError>
         ensures { IfOk result (λ state. state_value state ≡ self.now.to) }
     {
-        let mut reader = self.row.reader();
+        let mut reader = ends(self.rows.row(self.place));
         skip_state(&mut reader);
-        let to = read_state(alloc, &mut reader)?;
-        Ok(to)
+        read_state(alloc, &mut reader)
     }
 
     /// How many steps it has.
@@ -139,42 +279,32 @@ impl<'p> KeptStretch<'p> {
     pub fn visited(&self) -> u64
         ensures { result ≡ length (visits_of_stretch self.now) }
     {
-        skip_paths(&mut after_states(&self.row))
+        skip_paths(&mut self.rows.row(self.place))
     }
 
     /// Adds the paths that it visits; where memory runs out, some may be there.
     pub fn add_visits(&self, alloc: Global, visits: &mut Lists) -> Result<(), AllocError>
         ensures { OnOk result (visits.new ≡ visits.old ++ visits_of_stretch self.now) }
     {
-        read_paths(alloc, &mut after_states(&self.row), visits)
+        read_paths(alloc, &mut self.rows.row(self.place), visits)
     }
 
-    /// How many X2 states it has at each level, up to the last level that has one, to be read.
-    pub fn levels(&self) -> Reader<'_>
-        ensures { map choice_of result ≡ levels_of_stretch self.now }
+    /// How many X2 states it has at each level, up to the last level that has one, to be read as a list of choices is: first how many
+    /// levels there are.
+    pub fn levels(&self) -> Reader<'a>
+        ensures { path_of result ≡ levels_of_stretch self.now }
     {
-        let mut reader = after_states(&self.row);
+        let mut reader = self.rows.row(self.place);
         let _visited = skip_paths(&mut reader);
         reader
     }
 
     /// Whether it is the same stretch of the same problem; false tells nothing.
-    pub fn same(&self, other: &KeptStretch<'_>) -> bool
+    pub fn same(&self, other: &KeptStretch<'_, '_>) -> bool
         ensures { IsTrue result → self.now ≡ other.now }
     {
         // How many steps there are follows from the states. Rows that differ could tell the same states.
-        self.problem.same(other.problem) && self.row.reader().same(&other.row.reader())
-    }
-
-    /// The same stretch, in memory of its own.
-    pub fn copy(&self) -> Result<KeptStretch<'p>, AllocError>
-        ensures { IfOk result (λ kept. kept ≡ self.now) }
-    {
-        let row = self.row.copy()?;
-        Ok(KeptStretch {
-            problem: self.problem,
-            steps: self.steps,
-            row,
-        })
+        let row = self.rows.row(self.place);
+        self.problem.same(other.problem) && row.same(&other.rows.row(other.place))
     }
 }

@@ -14,7 +14,7 @@ mod stretch;
 pub use branch::Branch;
 pub use cut::Cut;
 pub use fault::{CutFault, RunnerFault, StartFault};
-pub use kept::KeptStretch;
+pub use kept::{KeptStretch, KeptStretches};
 pub use order::run_order;
 pub use runner::Runner;
 pub use stretch::Stretch;

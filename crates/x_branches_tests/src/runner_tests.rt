@@ -2,7 +2,7 @@
 use crate::fixtures::{refusal, runner_of, small, whole};
 use cover_problem::{PlainTable, Problem, Table};
 use std::alloc::Global;
-use x_branches::{KeptStretch, Runner, RunnerFault, Stretch};
+use x_branches::{KeptStretch, KeptStretches, Runner, RunnerFault, Stretch};
 use x_steps::{Cursor, Event, Label, State, Walk};
 
 /// What is asked of a runner, and what it has to tell.
@@ -147,7 +147,7 @@ fn is_copied(stretch: &Stretch<'_>, parts: Parts) -> bool {
 }
 
 /// Whether what is kept of a stretch begins and ends where it does.
-fn has_kept_ends(kept: &KeptStretch<'_>, stretch: &Stretch<'_>) -> bool {
+fn has_kept_ends(kept: &KeptStretch<'_, '_>, stretch: &Stretch<'_>) -> bool {
     let alloc = *stretch.from().path.allocator();
     let Ok(from) = kept.from(alloc) else {
         return false;
@@ -159,36 +159,61 @@ fn has_kept_ends(kept: &KeptStretch<'_>, stretch: &Stretch<'_>) -> bool {
 }
 
 /// Whether it is the stretch again when it is opened.
-fn opens_as(kept: &KeptStretch<'_>, stretch: &Stretch<'_>, parts: Parts) -> bool {
+fn opens_as(kept: &KeptStretch<'_, '_>, stretch: &Stretch<'_>, parts: Parts) -> bool {
     let Ok(opened) = kept.open(*stretch.from().path.allocator()) else {
         return false;
     };
     has_ends_of(&opened, stretch) && is_stretch(&opened, parts)
 }
 
-/// The same of a copy of what is kept.
-fn opens_copied(kept: &KeptStretch<'_>, stretch: &Stretch<'_>, parts: Parts) -> bool {
-    let Ok(copy) = kept.copy() else {
-        return false;
-    };
-    kept.same(&copy) && opens_as(&copy, stretch, parts)
-}
-
-/// Whether what is kept of a stretch tells its ends, steps and visits, and its copy is the stretch again when it is opened.
-fn tells_kept(kept: &KeptStretch<'_>, stretch: &Stretch<'_>, parts: Parts) -> bool {
+/// Whether what is kept of a stretch tells its ends, steps and visits, and is the stretch again when it is opened.
+fn tells_kept(kept: &KeptStretch<'_, '_>, stretch: &Stretch<'_>, parts: Parts) -> bool {
     let is_counted = kept.steps() == parts.steps && kept.visited() == parts.visits.len() as u64;
-    is_counted && has_kept_ends(kept, stretch) && opens_copied(kept, stretch, parts)
+    is_counted && has_kept_ends(kept, stretch) && opens_as(kept, stretch, parts)
 }
 
-/// The same of a stretch that is kept here.
-fn is_kept(stretch: &Stretch<'_>, parts: Parts) -> bool {
-    let Ok(copy) = stretch.copy() else {
+/// Whether all of these are the stretch as it is kept.
+fn all_tell(kept: &KeptStretches<'_>, stretch: &Stretch<'_>, parts: Parts) -> bool {
+    for place in 0..kept.len() {
+        if !tells_kept(&kept.stretch(place), stretch, parts) {
+            return false;
+        }
+    }
+    true
+}
+
+/// The same of a copy, and of it without the last one.
+fn is_kept_copied(kept: &KeptStretches<'_>, stretch: &Stretch<'_>, parts: Parts) -> bool {
+    let Ok(mut copy) = kept.copy() else {
         return false;
     };
-    match KeptStretch::of(copy) {
-        Ok(kept) => tells_kept(&kept, stretch, parts),
-        Err(_) => false,
+    if !kept.same(&copy) || !all_tell(&copy, stretch, parts) {
+        return false;
     }
+    copy.truncate(1);
+    !kept.same(&copy) && copy.len() == 1 && all_tell(&copy, stretch, parts)
+}
+
+/// Keeps so many copies of a stretch.
+fn keep<'p>(kept: &mut KeptStretches<'p>, stretch: &Stretch<'p>, count: usize) -> bool {
+    for _ in 0..count {
+        let Ok(copy) = stretch.copy() else {
+            return false;
+        };
+        if kept.push(copy).is_err() {
+            return false;
+        }
+    }
+    true
+}
+
+/// Whether a stretch that is kept three times is told three times, and so by a copy.
+fn is_kept(stretch: &Stretch<'_>, parts: Parts) -> bool {
+    let mut kept = KeptStretches::new(*stretch.from().path.allocator());
+    keep(&mut kept, stretch, 3)
+        && kept.len() == 3
+        && all_tell(&kept, stretch, parts)
+        && is_kept_copied(&kept, stretch, parts)
 }
 
 fn hands_out<T: Table>(runner: &mut Runner<'_, T>, parts: Parts) -> bool {

@@ -140,7 +140,7 @@ impl<'p> Book<'p> {
         Ok(())
     }
 
-    /// Gives the tile up that is leased, at its mark: it waits, or is held where a stop was asked for. Takes no memory for the
+    /// Gives the tile up that is leased, at its mark: it waits, or is held where a stop was asked for. Needs no memory for the
     /// tile's current lease. Refused where no tile has the lease's id (1), and where the lease isn't its current one (3); the lease
     /// comes back.
     pub fn abandon(&mut self, lease: Lease) -> Result<(), Refused<BookFault, Lease>>
@@ -171,7 +171,7 @@ impl<'p> Book<'p> {
     }
 
     /// The same for a tile that is to be taken up again: its worker has posted what it wants to keep. It waits, or is held where a
-    /// stop was asked for. Takes no memory for the tile's current lease.
+    /// stop was asked for. Needs no memory for the tile's current lease.
     pub fn park(&mut self, lease: Lease) -> Result<(), Refused<BookFault, Lease>>
         ensures made { OnOk result (Ends self.old self.new calls.Park lease) }
         ensures current { is_current self.old.tiles lease ≡ true → IsOk result }

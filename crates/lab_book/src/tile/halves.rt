@@ -6,21 +6,7 @@ use crate::status::Status;
 use crate::tile::{Parts, Tile, cut_state};
 use std::alloc::{AllocError, Global};
 use std::mem;
-use x_branches::{Branch, Cut, KeptStretch};
-
-/// Copies of stretches.
-fn copied<'p>(
-    alloc: Global,
-    stretches: &[KeptStretch<'p>],
-) -> Result<Vec<KeptStretch<'p>>, AllocError>
-    ensures { IfOk result (λ copies. copies.items ≡ stretches.now) }
-{
-    let mut copies = Vec::with_capacity(alloc, stretches.len())?;
-    for stretch in stretches {
-        copies.push(stretch.copy()?)?;
-    }
-    Ok(copies)
-}
+use x_branches::{Branch, Cut, KeptStretches};
 
 impl<'p> Tile<'p> {
     /// The tile that a split at a cut takes, made before anything changes: its end is the one that the split tile gets.
@@ -44,7 +30,7 @@ impl<'p> Tile<'p> {
                 status: Status::Waiting,
                 stop: false,
                 first,
-                stretches: Vec::new(alloc),
+                stretches: KeptStretches::new(alloc),
                 mark,
             },
         )
@@ -70,14 +56,13 @@ impl<'p> Tile<'p> {
     pub fn copy(&self) -> Result<Tile<'p>, AllocError>
         ensures { IfOk result (λ tile. tile ≡ self.now) }
     {
-        let alloc = *self.parts.stretches.allocator();
         let branch = self.branch().copy()?;
         let end = self.parts.end.copy()?;
         let first = self.parts.first.copy()?;
-        let stretches = copied(alloc, self.stretches())?;
+        let stretches = self.stretches().copy()?;
         let mark = self.parts.mark.copy()?;
         Tile::of(
-            alloc,
+            self.allocator(),
             Parts {
                 id: self.id(),
                 branch,

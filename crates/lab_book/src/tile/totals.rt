@@ -14,9 +14,10 @@ impl<'p> Tile<'p> {
         ensures small { result ≤ 18446744073709551615 * length self.now.stretches }
     {
         let mut visited: u128 = 0;
-        for stretch in self.stretches() {
+        let stretches = self.stretches();
+        for place in 0..stretches.len() {
             // A stretch counts in 64 bits, so that 2 ^ 64 of them can't fill 128.
-            visited += stretch.visited() as u128;
+            visited += stretches.stretch(place).visited() as u128;
         }
         visited
     }
@@ -27,8 +28,9 @@ impl<'p> Tile<'p> {
         ensures small { result ≤ most_steps * length self.now.stretches }
     {
         let mut steps: u128 = 0;
-        for stretch in self.stretches() {
-            steps += stretch.steps() as u128;
+        let stretches = self.stretches();
+        for place in 0..stretches.len() {
+            steps += stretches.stretch(place).steps() as u128;
         }
         steps
     }
@@ -43,8 +45,9 @@ impl<'p> Tile<'p> {
         ensures small { (level : ℕ) → level < length totals.old →
             slice_index totals.new level ≤ slice_index totals.old level + most_steps * length self.now.stretches }
     {
-        for stretch in self.stretches() {
-            add_counts(totals, stretch.levels());
+        let stretches = self.stretches();
+        for place in 0..stretches.len() {
+            add_counts(totals, stretches.stretch(place).levels());
         }
     }
 }

@@ -41,6 +41,11 @@ note_code n = n.index ∷ entry_code n.entry
 abbrev pub IsNoteCode : List ℕ → Type 0
 IsNoteCode ns = ns ≡ note_code (note_of ns)
 
+-- a row has the numbers of a note, and tells it
+pub record IsRowOf (ns : List ℕ) (n : Noted) : Type 0 where
+  pub tells : note_of ns ≡ n
+  pub code : ns ≡ note_code n
+
 -- each packed row is that of a note
 abbrev pub AreNoteCodes : List (List ℕ) → Type 0
 AreNoteCodes rows = All IsNoteCode rows

@@ -1,8 +1,8 @@
 //! Notes, with room kept for notes to come.
-ghost use Rattle.std.specs.Prelude.{◌≡◌, ◌≤◌, ◌<◌, ◌+◌, ◌-◌, ◌++◌, [], length, slice_get, option_map};
-ghost use Rattle.std.specs.Prelude.{vec_len, vec_capacity, IfOk, OnOk, OnErr, IsOk, IsSome, IfSome, ◌^◌, None};
+ghost use Rattle.std.specs.Prelude.{◌≡◌, ◌≤◌, ◌<◌, ◌+◌, ◌-◌, ◌++◌, ◌∷◌, [], false, length, slice_get, option_map};
+ghost use Rattle.std.specs.Prelude.{vec_len, vec_capacity, IfOk, OnOk, OnErr, IsOk, IsSome, IfSome, IsTrue, ◌^◌, None};
 ghost use Rattle.lab_book.specs.Calls.{done_entry};
-ghost use Rattle.lab_desk.specs.Record.{noted, note_of, note_code, all_notes, kept_after, EndsLease};
+ghost use Rattle.lab_desk.specs.Record.{noted, note_of, IsRowOf, all_notes, kept_after, EndsLease};
 ghost use Rattle.lab_desk.specs.Record.{TellsEntry, IsNoteOf, IsNoteCode, AreNoteCodes, TellsWhether};
 
 use crate::seat::Noted;
@@ -23,24 +23,26 @@ pub(crate) struct Sheet {
     next: Option<Noted>,
     /// The scratch row by which notes are packed.
     row: Row,
+    /// Whether it has the numbers of the note in hand.
+    written: bool,
 }
 
 impl Model for Sheet {
-    ghost use Rattle.std.specs.Prelude.{◌+◌, ◌≤◌, ◌++◌, map, vec_len, vec_capacity, IfSome};
-    ghost use Rattle.lab_desk.specs.Record.{SheetValue, note_of, AreNoteCodes, kept_after};
+    ghost use Rattle.std.specs.Prelude.{◌+◌, ◌≤◌, ◌++◌, map, vec_len, vec_capacity, IfSome, IsTrue};
+    ghost use Rattle.lab_desk.specs.Record.{SheetValue, note_of, AreNoteCodes, IsRowOf, kept_after};
 
     ghost Value = { SheetValue };
 
     ghost view = { λ n. record { list = map note_of n.rows.rows ++ n.last.items; kept = n.kept; next = n.next } };
 
     ghost invariant = { λ n. (vec_len n.last + n.kept ≤ vec_capacity n.last) × AreNoteCodes n.rows.rows
-        × IfSome n.next (λ x. vec_len n.last + 1 + kept_after n.kept x.entry ≤ vec_capacity n.last) };
+        × IfSome n.next (λ x. vec_len n.last + 1 + kept_after n.kept x.entry ≤ vec_capacity n.last)
+        × IfSome n.next (λ x. IsTrue n.written → IsRowOf n.row x) };
 }
 
 /// Writes the numbers of a note into a scratch row, and nothing else.
 fn write(row: &mut Row, index: u64, entry: &Entry) -> Result<(), AllocError>
-    ensures told { OnOk result (note_of row.new ≡ noted index entry.now) }
-    ensures code { OnOk result (row.new ≡ note_code (noted index entry.now)) }
+    ensures { OnOk result (IsRowOf row.new (noted index entry.now)) }
 {
     // A row from before may be left there by another seat.
     row.clear();
@@ -143,19 +145,28 @@ fn end_of(entry: &Entry) -> Option<Entry>
     }
 }
 
-/// A copy of an entry, which takes no memory where it ends a lease: the entry of that lease stood in
-/// the scratch row, and takes as much. Any other is written there with its index, so that the row has
-/// room for its note when the notes are compared with the history.
-fn copied(alloc: Global, row: &mut Row, index: u64, entry: &Entry) -> Result<Entry, AllocError>
-    ensures same { IfOk result (λ e. e ≡ entry.now) }
+/// A copy of an entry, and whether the numbers of its note were written into a scratch row. One that ends a lease is copied without
+/// memory: the entry of that lease stood in the row, and takes as much. Any other is written, so that the row has room for its note when
+/// the notes are compared with the history.
+fn copied(row: &mut Row, index: u64, entry: &Entry) -> Result<(Entry, bool), AllocError>
+    ensures same { IfOk result (λ r. r.0 ≡ entry.now) }
+    ensures written { IfOk result (λ r. IsTrue r.1 → IsRowOf row.new (noted index entry.now)) }
     ensures end { EndsLease entry.now → IsOk result }
 {
     if let Some(end) = end_of(entry) {
-        return Ok(end);
+        return Ok((end, false));
     }
-    // Written though it isn't kept there: the row has grown to its length then.
     write(row, index, entry)?;
-    entry.copy_by(alloc, row)
+    let copy = entry.copy()?;
+    Ok((copy, true))
+}
+
+/// Adds the row of a note to those that are packed, if none waits before it.
+fn push_written(rows: &mut Rows, row: &Row, last: &[Noted]) -> bool
+    ensures packed { IsTrue result → (last.now ≡ []) × (rows.new.rows ≡ rows.old.rows ++ row.now ∷ []) }
+    ensures unchanged { result ≡ false → rows.new ≡ rows.old }
+{
+    last.is_empty() && rows.push(row).is_ok()
 }
 
 /// For how many notes room is kept once an entry is noted, of so many before.
@@ -187,12 +198,12 @@ impl Scribe for Sheet {
         if self.next.is_some() {
             return Err(AllocError);
         }
-        let alloc = *self.last.allocator();
-        let entry = copied(alloc, &mut self.row, index, entry)?;
+        let (entry, written) = copied(&mut self.row, index, entry)?;
         let after = room_after(self.kept, &entry);
         // With this note in hand, each lease that it leaves open can be noted as ended.
         self.last.reserve(after + 1)?;
         self.next = Some(Noted { index, entry });
+        self.written = written;
         Ok(())
     }
 
@@ -201,6 +212,10 @@ impl Scribe for Sheet {
             return;
         };
         self.kept = room_after(self.kept, &noted.entry);
+        // Its numbers are there already, unless it ends a lease.
+        if self.written && push_written(&mut self.rows, &self.row, &self.last) {
+            return;
+        }
         self.last.push_reserved(noted);
         pack(&mut self.rows, &mut self.row, &mut self.last);
     }
@@ -221,6 +236,7 @@ impl Sheet {
             kept: 0,
             next: None,
             row: Row::new(alloc),
+            written: false,
         }
     }
 
@@ -258,5 +274,6 @@ impl Sheet {
         ensures { self.new ≡ self.old }
     {
         mem::swap(&mut self.row, row);
+        self.written = false;
     }
 }

@@ -52,12 +52,12 @@ impl<'a> Entries<'a> {
         requires { place < length self.now }
         ensures { IfOk result (λ entry. slice_get self.now place ≡ Some entry) }
     {
-        let alloc = *self.last.allocator();
         let count = self.rows.len();
         // Behind the rows stand those that there was no memory to pack.
         if place >= count {
-            return self.last[place - count].copy(alloc);
+            return self.last[place - count].copy();
         }
+        let alloc = *self.last.allocator();
         let entry = read_entry(alloc, &mut self.rows.row(place))?;
         Ok(entry)
     }

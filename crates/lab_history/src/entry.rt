@@ -4,13 +4,13 @@ ghost use Rattle.lab_history.specs.EntryCode.{entry_code, entry_of};
 ghost use Rattle.lab_history.specs.Kinds.{kind_of};
 ghost use Rattle.lab_history.specs.declared.entry.Call.TheVariants as calls;
 
-use crate::code::{put_entry, read_entry};
+use crate::code::put_entry;
 use crate::fault::BookFault;
 use crate::grant::Grant;
 use crate::kind::CallKind;
 use crate::mark::{Mark, Path};
 use packed_rows::Row;
-use std::alloc::{AllocError, Global};
+use std::alloc::AllocError;
 
 /// A call, as the history keeps it: a stretch by its two states, a cut by its choices, each with whether its problem is the
 /// book's, and a lease by its parts.
@@ -144,6 +144,46 @@ impl Call {
         }
     }
 
+    /// A copy.
+    fn copy(&self) -> Result<Call, AllocError>
+        ensures { IfOk result (λ call. call ≡ self.now) }
+    {
+        match self {
+            Call::Lease(id) => Ok(Call::Lease(*id)),
+            Call::LeaseAny => Ok(Call::LeaseAny),
+            Call::TakeHeld(id) => Ok(Call::TakeHeld(*id)),
+            Call::Post {
+                lease,
+                from,
+                to,
+                same,
+            } => {
+                let from = from.copy()?;
+                let to = to.copy()?;
+                Ok(Call::Post {
+                    lease: *lease,
+                    from,
+                    to,
+                    same: *same,
+                })
+            }
+            Call::Split { lease, path, same } => Ok(Call::Split {
+                lease: *lease,
+                path: path.copy()?,
+                same: *same,
+            }),
+            Call::Retract(lease) => Ok(Call::Retract(*lease)),
+            Call::Park(lease) => Ok(Call::Park(*lease)),
+            Call::Abandon(lease) => Ok(Call::Abandon(*lease)),
+            Call::Close(lease) => Ok(Call::Close(*lease)),
+            Call::PutBack { id, state } => Ok(Call::PutBack {
+                id: *id,
+                state: state.copy()?,
+            }),
+            Call::RequestStop(id) => Ok(Call::RequestStop(*id)),
+        }
+    }
+
     /// What kind of call it is.
     pub fn kind(&self) -> CallKind
         ensures { result ≡ kind_of self.now }
@@ -175,7 +215,56 @@ fn are_same(one: &Option<Path>, other: &Option<Path>) -> bool
     }
 }
 
+/// A copy of a path, if there is one.
+fn copied(path: &Option<Path>) -> Result<Option<Path>, AllocError>
+    ensures { IfOk result (λ copy. copy ≡ path.now) }
+{
+    match path {
+        Some(path) => Ok(Some(path.copy()?)),
+        None => Ok(None),
+    }
+}
+
 impl Reply {
+    /// A copy.
+    fn copy(&self) -> Result<Reply, AllocError>
+        ensures { IfOk result (λ reply. reply ≡ self.now) }
+    {
+        match self {
+            Reply::Leased {
+                lease,
+                lo,
+                hi,
+                mark,
+                waiting,
+            } => {
+                let lo = copied(lo)?;
+                let hi = copied(hi)?;
+                let mark = mark.copy()?;
+                Ok(Reply::Leased {
+                    lease: *lease,
+                    lo,
+                    hi,
+                    mark,
+                    waiting: *waiting,
+                })
+            }
+            Reply::NoneWaits => Ok(Reply::NoneWaits),
+            Reply::Posted { stop, waiting } => Ok(Reply::Posted {
+                stop: *stop,
+                waiting: *waiting,
+            }),
+            Reply::Split(id) => Ok(Reply::Split(*id)),
+            Reply::Retracted { from, to } => {
+                let from = from.copy()?;
+                let to = to.copy()?;
+                Ok(Reply::Retracted { from, to })
+            }
+            Reply::Done => Ok(Reply::Done),
+            Reply::Refused(fault) => Ok(Reply::Refused(fault.copy()?)),
+        }
+    }
+
     /// Whether it is the same answer.
     pub fn same(&self, other: &Reply) -> bool
         ensures { IsTrue result ↔ (self.now ≡ other.now) }
@@ -255,21 +344,17 @@ impl Entry {
         Ok(())
     }
 
-    /// A copy, made of its numbers.
-    pub(crate) fn copy(&self, alloc: Global) -> Result<Entry, AllocError>
+    /// A copy.
+    pub fn copy(&self) -> Result<Entry, AllocError>
         ensures { IfOk result (λ entry. entry ≡ self.now) }
     {
-        self.copy_by(alloc, &mut Row::new(alloc))
-    }
-
-    /// A copy, made of its numbers by a scratch row.
-    pub fn copy_by(&self, alloc: Global, row: &mut Row) -> Result<Entry, AllocError>
-        ensures { IfOk result (λ entry. entry ≡ self.now) }
-    {
-        self.write(row)?;
-        // By its numbers, so that copies and what is packed are made in one way.
-        let entry = read_entry(alloc, &mut row.reader())?;
-        Ok(entry)
+        let call = self.call.copy()?;
+        let reply = self.reply.copy()?;
+        Ok(Entry {
+            worker: self.worker,
+            call,
+            reply,
+        })
     }
 
     /// Who called.

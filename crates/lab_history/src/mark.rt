@@ -89,6 +89,14 @@ impl Path {
         Path { choices }
     }
 
+    /// A copy.
+    pub(crate) fn copy(&self) -> Result<Path, AllocError>
+        ensures { IfOk result (λ path. path ≡ self.now) }
+    {
+        let choices = self.choices.clone()?;
+        Ok(Path { choices })
+    }
+
     /// Whether they are the same choices.
     pub fn same(&self, other: &Path) -> bool
         ensures { IsTrue result ↔ (self.now ≡ other.now) }

@@ -1,4 +1,4 @@
-//! Tests of `text_lines`, `byte_streams` and `cover_problem`: lines and words, streams that break, problems, their texts and their tables.
+//! Tests of `text_lines`, `byte_streams` and `cover_problem`: numbers, streams that break, problems and their tables.
 #![tactic(auto)]
 
 #[cfg(test)]
@@ -13,5 +13,3 @@ mod problem_tests;
 mod stream_tests;
 #[cfg(test)]
 mod table_tests;
-#[cfg(test)]
-mod text_tests;

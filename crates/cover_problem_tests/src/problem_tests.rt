@@ -41,31 +41,10 @@ static REFUSED: [(Of, Fault); 10] = [
     ),
 ];
 
-/// Parts, each with whether their problem is the one of a and b, both primary, with the option a b.
-static SAME: [(Of, bool); 4] = [
-    (Of(&["a", "b"], 2, &[&[1, 2]]), true),
-    (Of(&["a", "b"], 1, &[&[1, 2]]), false),
-    (Of(&["a", "c"], 2, &[&[1, 2]]), false),
-    (Of(&["a", "b"], 2, &[&[2, 1]]), false),
-];
-
 /// The parts of a problem with a secondary item, and its text.
 static SECONDARY_PARTS: Of = Of(&["a", "b", "c"], 2, &[&[1, 3], &[2, 3], &[1], &[2]]);
 
 const SECONDARY: &[u8] = b"items a b\nmaybe c\noption a c\noption b c\noption a\noption b\n";
-
-/// A fault with its number and its name.
-struct Named(Fault, u8, &'static str);
-
-static FAULTS: [Named; 7] = [
-    Named(Fault::BadName, 1, "BadName"),
-    Named(Fault::RepeatedItem, 2, "RepeatedItem"),
-    Named(Fault::UnknownItem, 3, "UnknownItem"),
-    Named(Fault::ItemTwiceInOption, 4, "ItemTwiceInOption"),
-    Named(Fault::TooLarge, 5, "TooLarge"),
-    Named(Fault::NoItemLine, 6, "NoItemLine"),
-    Named(Fault::BadLine, 7, "BadLine"),
-];
 
 fn words(alloc: Global, names: &[&str]) -> Result<Vec<String>, AllocError> {
     let mut words = Vec::new(alloc);
@@ -134,77 +113,33 @@ fn has_parts(problem: &Problem) -> bool {
     problem.name(1) == "a" && problem.name(7) == "g" && problem.option(2) == [1, 4, 7].as_slice()
 }
 
-/// Whether items are found by their names, and no other names are found.
-fn finds(problem: &Problem) -> bool {
-    problem.item("d") == Some(4)
-        && problem.item("h").is_none()
-        && problem.item("a_long_name").is_none()
+/// Whether a problem has what the small one has.
+fn is_small(problem: &Problem) -> bool {
+    is_counted(problem) && has_parts(problem)
 }
 
-/// Whether the copy of a problem is the same.
-fn is_copied(problem: &Problem) -> bool {
-    let Ok(copy) = problem.copy() else {
-        return false;
-    };
-    problem.same(&copy)
-}
-
-/// What is asked of the small problem.
-#[derive(Clone, Copy)]
-enum Asked {
-    Parts,
-    Names,
-    Copy,
-}
-
-/// Whether a problem is in this as the small one is.
-fn is_in(problem: &Problem, asked: Asked) -> bool {
-    match asked {
-        Asked::Parts => is_counted(problem) && has_parts(problem),
-        Asked::Names => finds(problem),
-        Asked::Copy => is_copied(problem),
-    }
-}
-
-/// The same of the small problem, made of its parts.
-fn is_small_in(alloc: Global, asked: Asked) -> bool {
+/// Whether the problem that is made of the small one's parts has.
+fn is_small_made(alloc: Global) -> bool {
     let Some(problem) = problem_of(alloc, &SMALL_PARTS) else {
         return false;
     };
-    is_in(&problem, asked)
+    is_small(&problem)
 }
 
 #[test]
 fn the_small_problem_is_made(rt: HostRuntime) {
-    assert!(rt; is_small_in(rt.alloc(), Asked::Parts));
+    assert!(rt; is_small_made(rt.alloc()));
 }
 
-#[test]
-fn items_are_found_by_name(rt: HostRuntime) {
-    assert!(rt; is_small_in(rt.alloc(), Asked::Names));
-}
-
-#[test]
-fn a_copy_is_the_same(rt: HostRuntime) {
-    assert!(rt; is_small_in(rt.alloc(), Asked::Copy));
-}
-
-/// Whether parts make the problem of this text, or another one; false where they or the text make none.
-fn is_of_text(alloc: Global, of: &Of, text: &[u8], same: bool) -> bool {
+/// Whether parts make the problem of this text; false where they or the text make none.
+fn is_of_text(alloc: Global, of: &Of, text: &[u8]) -> bool {
     let Some(problem) = problem_of(alloc, of) else {
         return false;
     };
     let Ok(read) = read_cover(alloc, text) else {
         return false;
     };
-    problem.same(&read) == same
-}
-
-#[test]
-fn problems_differ_in_each_part(rt: HostRuntime) {
-    for row in &SAME {
-        assert!(rt; is_of_text(rt.alloc(), &row.0, b"items a b\noption a b", row.1));
-    }
+    problem.same(&read)
 }
 
 /// Whether it is a refusal with this fault, which hands these parts back.
@@ -309,8 +244,8 @@ fn is_too_large(made: Option<Made>, names: usize, options: usize) -> bool {
 
 #[test]
 fn a_made_problem_is_the_one_of_its_text(rt: HostRuntime) {
-    assert!(rt; is_of_text(rt.alloc(), &SMALL_PARTS, SMALL, true));
-    assert!(rt; is_of_text(rt.alloc(), &SECONDARY_PARTS, SECONDARY, true));
+    assert!(rt; is_of_text(rt.alloc(), &SMALL_PARTS, SMALL));
+    assert!(rt; is_of_text(rt.alloc(), &SECONDARY_PARTS, SECONDARY));
 }
 
 /// Whether so many equal options make the problem of their text.
@@ -348,11 +283,4 @@ fn the_limit_on_entries_is_exact(rt: HostRuntime) {
     assert!(rt; is_too_large(large(rt.alloc(), 65_535, &sizes), 65_535, 127));
     sizes[126] = 65_534;
     assert!(rt; is_made(large(rt.alloc(), 65_535, &sizes), 65_535, 127));
-}
-
-#[test]
-fn faults_have_numbers_and_names(rt: HostRuntime) {
-    for row in &FAULTS {
-        assert!(rt; row.0.number() == row.1 && row.0.name() == row.2);
-    }
 }

@@ -1,5 +1,5 @@
 //! Each public function of cells and shapes once, with values from outside: rows worked by hand, and counts.
-use crate::fixtures::{Cells, MIRRORED, SCREW, are_cells, box_of, shape_at};
+use crate::fixtures::{Cells, are_cells, box_of, shape_at};
 use poly_cells::{Cell, Rotation, Shape, Symmetry, TranslateFault, symmetries_of};
 use std::alloc::Global;
 use std::test::Fail;
@@ -110,28 +110,9 @@ fn a_turned_row_lies_along_another_axis(rt: HostRuntime) -> Result<(), Fail> {
     Ok(())
 }
 
-/// Whether some symmetry turns the shape of some cells into that of others.
-fn some_turns(alloc: Global, cells: Cells, image: Cells) -> Result<bool, Fail> {
-    for n in 0..48 {
-        if turns(alloc, cells, Symmetry::new(n), image)? {
-            return Ok(true);
-        }
-    }
-    Ok(false)
-}
-
-#[test]
-fn a_screw_is_no_rotation_of_its_mirror_image(rt: HostRuntime) -> Result<(), Fail> {
-    for r in 0..24 {
-        assert!(rt; !turns(rt.alloc(), SCREW, Rotation::new(r).symmetry(), MIRRORED)?);
-    }
-    assert!(rt; some_turns(rt.alloc(), SCREW, MIRRORED)?);
-    Ok(())
-}
-
 /// The symmetries of the box of these lengths.
 fn symmetries(alloc: Global, a: u8, b: u8, c: u8) -> Result<Vec<Symmetry>, Fail> {
-    let shape = box_of(alloc, a, b, c, None)?;
+    let shape = box_of(alloc, a, b, c)?;
     Ok(symmetries_of(alloc, &shape)?)
 }
 

@@ -6,12 +6,6 @@ use std::test::Fail;
 /// Coordinates of cells.
 pub type Cells = &'static [(u8, u8, u8)];
 
-/// A screw of four cells.
-pub const SCREW: Cells = &[(0, 0, 0), (1, 0, 0), (0, 1, 0), (0, 1, 1)];
-
-/// Its mirror image.
-pub const MIRRORED: Cells = &[(0, 0, 0), (1, 0, 0), (0, 1, 0), (1, 0, 1)];
-
 /// Whether the cells have these coordinates.
 pub fn are_cells(cells: &[Cell], coordinates: Cells) -> bool {
     cells.len() == coordinates.len()
@@ -40,16 +34,13 @@ pub fn shape_at(alloc: Global, coordinates: Cells) -> Result<Shape, Fail> {
     shape_of(cells)
 }
 
-/// The box of these lengths, without the cell where one is given.
-pub fn box_of(alloc: Global, a: u8, b: u8, c: u8, hole: Option<Cell>) -> Result<Shape, Fail> {
+/// The box of these lengths.
+pub fn box_of(alloc: Global, a: u8, b: u8, c: u8) -> Result<Shape, Fail> {
     let mut cells = Vec::new(alloc);
     for x in 0..a {
         for y in 0..b {
             for z in 0..c {
-                let cell = Cell::new(x, y, z)?;
-                if hole != Some(cell) {
-                    cells.push(cell)?;
-                }
+                cells.push(Cell::new(x, y, z)?)?;
             }
         }
     }

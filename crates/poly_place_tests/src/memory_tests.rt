@@ -79,7 +79,7 @@ fn are_placed_twice(alloc: Global, region: &Shape) -> Result<bool, Fail> {
 
 /// The same in a square.
 fn are_placed_in_square_twice(alloc: Global) -> Result<bool, Fail> {
-    let square = box_of(alloc, 2, 2, 1, None)?;
+    let square = box_of(alloc, 2, 2, 1)?;
     are_placed_twice(alloc, &square)
 }
 

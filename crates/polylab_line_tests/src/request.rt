@@ -1,6 +1,6 @@
 //! What tests ask the program for.
 
-use polylab_engine::{Job, TableKind};
+use polylab_engine::Job;
 use polylab_line::Request;
 
 /// A job of so many workers, by the table that suits the problem.
@@ -15,12 +15,4 @@ pub fn shared(job: Job, workers: u32) -> Request {
 /// The same of one worker.
 pub fn alone(job: Job) -> Request {
     shared(job, 1)
-}
-
-/// The same by this table.
-pub fn by_table(request: Request, table: TableKind) -> Request {
-    Request {
-        table: Some(table),
-        ..request
-    }
 }

@@ -1,114 +1,47 @@
-//! Searches that workers share, through `status`: the same bytes for every number of workers, and workers who are at work at the same
-//! time.
+//! Workers who share a search, through `status`: their number, and workers who are at work at the same time.
 
-use crate::class_tests::FIVE_DOMINOES;
-use crate::cover_tests::{SMALL_OUTPUT, lists_equal};
-use crate::ending::{Row, assert_written_by, ending_of, ending_under, refuses};
-use crate::puzzle_tests::SOMA;
+use crate::ending::ending_under;
 use crate::request::{alone, shared};
-use crate::texts::joined;
 use cover_bits::BitTable;
 use cover_problem::Problem;
-use drawn_problems::SMALL;
 use lab_book::{Book, Call, Entry};
-use lab_pool::{Gate, GateCall, run_pool};
+use lab_pool::{Gate, GateCall, NoGate, run_pool};
 use poly_place::compile;
 use poly_texts::{Puzzle, read_puzzle};
-use polylab_engine::{CoverJob, Job, PuzzleJob};
+use polylab_engine::{Job, PuzzleJob};
 use polylab_line::Request;
 use std::alloc::Global;
-use std::process::Abort;
 use std::sync::Wait;
 use std::sync::atomic::{AtomicBool, AtomicU8, Ordering};
 use std::thread;
 use std::thread::Threads;
 
-/// The small problem, with what is written of its covers.
-pub static COVERED: Row = Row(SMALL, SMALL_OUTPUT);
+/// Five dominoes in a box.
+const FIVE_DOMINOES: &str =
+    "box 5 2 1\npiece A 000 100\npiece B 000 100\npiece C 000 100\npiece D 000 100\npiece E 000 100\n";
 
-#[test]
-fn covers_are_listed_by_any_number_of_workers(rt: HostRuntime) {
-    let job = Job::Cover(CoverJob::List);
-    assert_written_by(&rt, rt.alloc(), job, &[1, 2, 8, 32], &COVERED);
-}
+/// The Soma cube.
+const SOMA: &str =
+    "piece V 000 100 010\npiece L 000 100 200 010\npiece T 000 100 200 110\npiece Z 000 100 110 210\n\
+     piece A 000 100 010 011\npiece B 000 100 010 101\npiece P 000 100 010 001\nbox 3 3 3\n";
 
-/// Five dominoes, with what is counted of them.
-pub static DOMINOES_COUNTED: Row = Row(
-    FIVE_DOMINOES,
-    "packings 960\noptions 65\nsteps 14487\nlevels 1 10 60 300 960 960\n",
-);
+/// What is counted of it.
+const SOMA_COUNTED: &str =
+    "packings 11520\noptions 688\nsteps 1991327\nlevels 1 55 1089 10633 48900 110149 72329 11520\n";
 
-#[test]
-fn packings_are_counted_by_any_number_of_workers(rt: HostRuntime) {
-    let job = Job::Puzzle(PuzzleJob::Count);
-    assert_written_by(&rt, rt.alloc(), job, &[1, 2, 8, 32], &DOMINOES_COUNTED);
-}
-
-/// The Soma cube, with what is written of its classes.
-static CLASSES: Row = Row(
-    SOMA,
-    "packings 11520\noptions 688\nsteps 1991327\n\
-     levels 1 55 1089 10633 48900 110149 72329 11520\nrotations 480\nsymmetries 240\n",
-);
-
-#[test]
-fn classes_are_counted_by_any_number_of_workers(rt: HostRuntime) {
-    let job = Job::Puzzle(PuzzleJob::Classes);
-    assert_written_by(&rt, rt.alloc(), job, &[2, 8, 32], &CLASSES);
-}
-
-/// The Soma cube, with what is counted of it.
-pub static SOMA_COUNTED: Row = Row(
-    SOMA,
-    "packings 11520\noptions 688\nsteps 1991327\n\
-     levels 1 55 1089 10633 48900 110149 72329 11520\n",
-);
-
-/// Whether so many workers show the packings of a puzzle as one does.
-fn show_the_same<R: Threads + Wait + Sync>(
-    rt: &R,
-    alloc: Global,
-    workers: u32,
-    text: &str,
-) -> bool {
-    let job = Job::Puzzle(PuzzleJob::Solve);
-    let one = ending_of(rt, alloc, alone(job), text.as_bytes());
-    let more = ending_of(rt, alloc, shared(job, workers), text.as_bytes());
-    one.status == 0 && more.is_so(0, &one.written, b"")
-}
-
-/// Puzzles that are shown.
-static SHOWN: [&str; 2] = [FIVE_DOMINOES, SOMA];
-
-/// Asserts that so many workers show the packings of each puzzle as one does.
-fn assert_shown_by<R: Abort + Threads + Wait + Sync>(rt: &R, alloc: Global, workers: u32) {
-    for text in &SHOWN {
-        assert!(rt; show_the_same(rt, alloc, workers, text), "by {workers}");
-    }
-}
-
-#[test]
-fn packings_are_shown_by_any_number_of_workers(rt: HostRuntime) {
-    for workers in [2, 8, 32] {
-        assert_shown_by(&rt, rt.alloc(), workers);
-    }
-}
-
-#[test]
-fn equal_options_are_listed_by_two_workers(rt: HostRuntime) {
-    assert!(rt; lists_equal(&rt, rt.alloc(), 2));
-}
+/// The same puzzle with commands, by which two workers search it.
+const SOMA_POOLED: &str =
+    "piece V 000 100 010\npiece L 000 100 200 010\npiece T 000 100 200 110\npiece Z 000 100 110 210\n\
+     piece A 000 100 010 011\npiece B 000 100 010 101\npiece P 000 100 010 001\nbox 3 3 3\n\n%%\n\
+     park\npool 2\nsteps\n";
 
 /// Whether so many workers are refused for their number.
 fn are_refused<R: Threads + Wait + Sync>(rt: &R, alloc: Global, workers: u32) -> bool {
-    let request = shared(Job::Puzzle(PuzzleJob::Count), workers);
-    refuses(
-        rt,
-        alloc,
-        request,
-        FIVE_DOMINOES,
+    let request = Ok(shared(Job::Puzzle(PuzzleJob::Count), workers));
+    ending_under(rt, alloc, &NoGate, request, FIVE_DOMINOES.as_bytes()).is_so(
         4,
-        "refused pool 1 BadWorkerCount\n",
+        b"",
+        b"refused pool 1 BadWorkerCount\n",
     )
 }
 
@@ -265,7 +198,7 @@ fn overlaps<R: Threads + Wait + Sync>(
 /// Whether the workers of the Soma cube's count overlap.
 fn workers_overlap<R: Threads + Wait + Sync>(rt: &R, alloc: Global) -> bool {
     let request = shared(Job::Puzzle(PuzzleJob::Count), 2);
-    overlaps(rt, alloc, request, SOMA_COUNTED.0, SOMA_COUNTED.1)
+    overlaps(rt, alloc, request, SOMA, SOMA_COUNTED)
 }
 
 #[test]
@@ -275,17 +208,9 @@ fn one_worker_posts_while_another_is_held(rt: HostRuntime) {
 
 /// Whether the workers of a command overlap, too.
 fn workers_of_pool_overlap<R: Threads + Wait + Sync>(rt: &R, alloc: Global) -> bool {
+    let request = alone(Job::Puzzle(PuzzleJob::Debug));
     let answers = "parked\npooled\nsteps 1991327\n";
-    match joined(alloc, &[SOMA, "\n%%\npark\npool 2\nsteps\n"]) {
-        Some(text) => overlaps(
-            rt,
-            alloc,
-            alone(Job::Puzzle(PuzzleJob::Debug)),
-            &text,
-            answers,
-        ),
-        None => false,
-    }
+    overlaps(rt, alloc, request, SOMA_POOLED, answers)
 }
 
 #[test]

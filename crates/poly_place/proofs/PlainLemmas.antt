@@ -1,4 +1,4 @@
--- Puzzles without the new lines have the problem that they had.
+-- A plain puzzle has the problem that is said for it.
 use Rattle.std.proofs.Common.{◌≡◌, ℕ, ◌+◌, ◌*◌, ◌-◌, arith, List, [], ◌∷◌, ◌++◌, map, filter, flat_map, length, Bool, true, false, not, ◌&&◌, ◌||◌, refl, sym, ap, ap₂, subst, ◌∙◌, append-nil}
 use Rattle.std.specs.List.{list_any}
 use Rattle.std.proofs.lemmas.Bool.{le-leb}

@@ -1,5 +1,5 @@
--- A puzzle without equal pieces, pieces that may be used any number of times, or pieces that may be reflected has the problem that it had
--- before there were any: the same items, with the same names, and the same options.
+-- The problem of a plain puzzle, said without equal pieces, pieces used any number of times and pieces that may be reflected: its items,
+-- with their names, and its options. It is the problem that the definition with them gives.
 use Rattle.std.specs.Prelude.{◌≡◌, ℕ, ◌+◌, ◌||◌, List, [], ◌∷◌, ◌++◌, map, filter, flat_map, length, not}
 use Rattle.std.specs.List.{list_any}
 use Rattle.poly_cells.specs.Symmetries.{rotations}

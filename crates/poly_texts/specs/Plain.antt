@@ -1,5 +1,5 @@
--- The lines that puzzle texts had before there were equal pieces, pieces used any number of times and pieces that may be reflected. A text
--- of these lines is read as the puzzle that it was.
+-- The plain lines of a puzzle text: those without equal pieces, pieces used any number of times and pieces that may be reflected. A text of
+-- these lines is read as the puzzle that they say, whatever the other lines mean.
 --
 -- Example: the line `maybe piece A 000` is one of them, and says the piece A, which may be left out. proofs/GrammarExamples.antt computes it.
 use Rattle.std.specs.Prelude.{ℕ, ◌≤◌, ◌<◌, ◌≡◌, nat_le, Bool, true, false, ◌&&◌, List, [], ◌∷◌, length, map, filter, flat_map, codes, decimal, Ok, if◌then◌else◌}

@@ -123,7 +123,7 @@ the pieces. All packings are then kept in memory until the end.
 
 With --workers N, N threads share the search; what is printed is the same. They
 keep what they posted until the end, about 1 GB for 10^10 steps; one worker
-keeps nothing but that. --table TABLE is as with `cover` (see `cover --help`).
+keeps these numbers alone. --table TABLE is as with `cover` (see `cover --help`).
 
 Exit statuses: 0 done, 2 command line refused, 3 text refused, 4 no memory or
 workers not done, 5 reading or writing failed.",

@@ -93,6 +93,16 @@ impl Offset {
     {
         self.bytes == other.bytes
     }
+
+    /// Whether it is less than another.
+    #[inline(always)]
+    pub fn is_below(self, other: Offset) -> bool
+        ensures less { result ≡ true → self < other }
+        ensures not_less { result ≡ false → other ≤ self }
+    {
+        // Both are whole entries, so nothing has to be divided.
+        self.bytes < other.bytes
+    }
 }
 
 /// An entry of the block: the header, an item's head, a node, or a spacer. Its numbers up to 2^28 are offsets, and those up to 2^16

@@ -4,6 +4,7 @@ ghost use Rattle.cover_problem.specs.Lists.{has};
 ghost use Rattle.cover_problem.specs.Problem as problem;
 ghost use Rattle.cover_problem.specs.Problem.{IsProblem, size_of};
 ghost use Rattle.cover_problem.specs.Table.{IsCoveredList};
+ghost use Rattle.cover_problem.specs.Covering.{list_of};
 ghost use Rattle.cover_links.specs.Entries.{entry_at};
 ghost use Rattle.cover_links.specs.Layout.{node_index};
 ghost use Rattle.cover_links.specs.StandsFor.{block_of};
@@ -11,7 +12,7 @@ ghost use Rattle.cover_links.specs.Table as table;
 
 use crate::block::Block;
 use crate::build::{fresh, starts};
-use crate::entry::{Entry, Node};
+use crate::entry::{Entry, Node, Offset};
 use crate::hiding::{cover_item, uncover_item};
 use cover_problem::{Problem, Table};
 use std::alloc::{AllocError, Global};
@@ -104,6 +105,16 @@ impl LinkTable {
         self.starts[self.starts.len() - 1]
     }
 
+    /// How many options an item's list has, as the block keeps it.
+    #[inline(always)]
+    fn list_len(&self, item: u32) -> Offset
+        requires some { 0 < item }
+        requires within { item ≤ length self.now.problem.names }
+        ensures { result ≡ length (list_of self.now.problem self.now.covered item) }
+    {
+        self.block.read(item).top
+    }
+
     /// An item's node in an option that has it.
     fn node_of(&self, item: u32, option: u32) -> u32
         requires some { 0 < option }
@@ -157,7 +168,27 @@ impl Table for LinkTable {
     }
 
     fn len(&self, item: u32) -> u32 {
-        self.block.read(item).top.index()
+        self.list_len(item).index()
+    }
+
+    #[inline(always)]
+    fn choose(&self) -> u32 {
+        // The walk of every table, with lengths as they stand in the block: a search takes much of its time here.
+        let mut best = self.first_item().unwrap();
+        let mut least = self.list_len(best);
+        let mut item = best;
+        while let Some(next) = self.next_item(item) {
+            let len = self.list_len(next);
+            if len.is_below(least) {
+                if len.is(Offset::at(0)) {
+                    return next;
+                }
+                best = next;
+                least = len;
+            }
+            item = next;
+        }
+        best
     }
 
     fn first_option(&self, item: u32) -> Option<u32> {

@@ -1,5 +1,5 @@
 //! The numbers of a state.
-ghost use Rattle.std.specs.Prelude.{◌≡◌, ◌++◌, OnOk, map};
+ghost use Rattle.std.specs.Prelude.{◌≡◌, ◌++◌, OnOk, OnErr, map};
 ghost use Rattle.x_steps.specs.StateView.{state_value};
 ghost use Rattle.x_codes.specs.StateCode.{label_number, cursor_kind, cursor_choice, choice_of};
 ghost use Rattle.x_codes.specs.StateCode.{path_code, paths_code, state_code, ReadsPath, ReadsPaths, ReadsState};
@@ -12,6 +12,7 @@ use x_steps::{Cursor, Label, State};
 /// Adds choices, or other numbers of 32 bits; where memory runs out, none.
 pub fn put_choices(row: &mut Row, choices: &[u32]) -> Result<(), AllocError>
     ensures code { OnOk result (row.new ≡ row.old ++ choices.now) }
+    ensures unchanged { OnErr result (row.new ≡ row.old) }
     ensures reads { map choice_of choices.now ≡ choices.now }
 {
     row.put_list(choices)

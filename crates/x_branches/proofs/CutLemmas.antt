@@ -14,7 +14,7 @@ use Rattle.x_steps.specs.declared.state.Label.TheVariants.{X5, X6}
 use Rattle.x_steps.specs.declared.state.Cursor.{Cursor}
 use Rattle.x_steps.specs.declared.state.Cursor.TheVariants as cursor
 use Rattle.x_steps.specs.declared.state.Cursor.TheVariants.{At, Past}
-use Rattle.x_steps.specs.StateValue.{StateValue, at}
+use Rattle.x_steps.specs.StateValue.{StateValue, at, start}
 use Rattle.x_steps.specs.Steps.{FitsAt, Fits, remaining_after}
 use Rattle.x_steps.specs.Order.{PathLess}
 use Rattle.x_steps.specs.Run.{steps_between}
@@ -59,6 +59,12 @@ cut_parts p path c = step (split_last_cases path)
     step : (path ≡ []) ⊎ ((q : List ℕ) × (o : ℕ) × (path ≡ q ++ o ∷ [])) → (q : List ℕ) × (o : ℕ) × (path ≡ q ++ o ∷ [])
     step (inl e) = let n = ap (λ (q : List ℕ). length q) e in let h = c.some in absurd (omega arith)
     step (inr r) = r
+
+-- of no choices is the first state of a run
+pub no_cut_starts : (path : List ℕ) → length path ≡ 0 → start ≡ cut_state path
+unfolding cut_state
+no_cut_starts [] e = refl
+no_cut_starts (x ∷ xs) e = absurd (omega (arith, e))
 
 -- a cut's path, parted before its last choice
 pub cut_parted : (path front back : List ℕ) (n : ℕ) → 0 < length path → n ≡ length path - 1 → front ≡ take n path → back ≡ drop n path → at X5 front (At (get_or back 0 0)) ≡ cut_state path

@@ -1,9 +1,10 @@
 //! Branches: parts of a run.
-ghost use Rattle.std.specs.Prelude.{◌≡◌, ◌↔◌, IsTrue, IfOk, Option};
+ghost use Rattle.std.specs.Prelude.{◌≡◌, ◌↔◌, IsTrue, IfOk, Option, option_copied};
 ghost use Rattle.cover_problem.specs.Problem.{ProblemValue};
 ghost use Rattle.x_steps.specs.Steps.{Fits};
 ghost use Rattle.x_steps.specs.StateView.{state_value};
-ghost use Rattle.x_branches.specs.Branch.{first_of, end_of};
+ghost use Rattle.x_branches.specs.Branch.{first_of, end_of, first_from};
+ghost use Rattle.x_branches.specs.RunOrder.{TrueIsBefore};
 ghost use Rattle.x_branches.specs.Runner.{IsOf, IsBranch, IsWithin};
 ghost use Rattle.x_branches.specs.Walk.{end_choices};
 
@@ -90,6 +91,16 @@ impl<'p> Branch<'p> {
         match &self.hi {
             Some(cut) => cut.position(),
             None => Position::last(),
+        }
+    }
+
+    /// Whether its first state comes before that of a branch whose low cut has these choices, or X1 where it has no low cut.
+    pub fn begins_before(&self, choices: Option<&[u32]>) -> bool
+        ensures { TrueIsBefore result (first_of self.now.lo) (first_from (option_copied choices.entry)) }
+    {
+        match choices {
+            Some(choices) => is_before(&self.first(), &Position::at_cut(choices)),
+            None => is_before(&self.first(), &Position::first()),
         }
     }
 

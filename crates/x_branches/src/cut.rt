@@ -136,13 +136,7 @@ impl<'p> Cut<'p> {
         ensures position { result ≡ cut_state self.now.path }
         ensures fits { Fits self.now.problem (cut_state self.now.path) }
     {
-        // There is a last choice, since no cut is empty.
-        let (front, last) = self.path.split_at(self.path.len() - 1);
-        Position {
-            label: Label::X5,
-            path: front,
-            cursor: Cursor::At(last[0]),
-        }
+        Position::at_cut(&self.path)
     }
 
     /// Its problem.

@@ -2,6 +2,7 @@
 ghost use Rattle.std.specs.Prelude.{◌≡◌, ◌↔◌, IsTrue};
 ghost use Rattle.x_steps.specs.StateValue.{start, done};
 ghost use Rattle.x_steps.specs.StateView.{state_value};
+ghost use Rattle.x_branches.specs.Cut.{cut_state};
 
 use std::marker::Model;
 use x_steps::{Cursor, Label, State};
@@ -53,6 +54,22 @@ impl<'a> Position<'a> {
             label: Label::Done,
             path: &[],
             cursor: Cursor::None,
+        }
+    }
+
+    /// The state of a cut: X5 at the last of its choices, after the others. Where there are none, the first of a run.
+    #[inline(always)]
+    pub fn at_cut(choices: &'a [u32]) -> Position<'a>
+        ensures { result ≡ cut_state choices.now }
+    {
+        if choices.is_empty() {
+            return Position::first();
+        }
+        let (front, last) = choices.split_at(choices.len() - 1);
+        Position {
+            label: Label::X5,
+            path: front,
+            cursor: Cursor::At(last[0]),
         }
     }
 

@@ -45,10 +45,8 @@ impl<'p, T: Table> Worker<'p, T> {
             Ok(id) => id,
             Err(Refused { fault, given: _ }) => return Err(WorkerFault::Book(fault)),
         };
-        // It was cut from this runner, which has not moved since.
-        let Ok(()) = self.runner.shorten(copy) else {
-            unreachable!()
-        };
+        // It was cut from this runner, which has not moved since: nothing is to be compared.
+        self.runner.end_at(copy);
         Ok(id)
     }
 }

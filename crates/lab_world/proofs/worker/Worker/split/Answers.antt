@@ -29,13 +29,12 @@ returns-in-Err-split_compared-clause-holds g c =
     c.in-Ok.cut c.in-Err-split_compared.field-0.fault c.in-Ok.ensures.cut c.in-Err-split_compared.ensures.refused in
     subst (λ (b : BookValue). HoldsTile b c.args.self.now) (sym told.1) c.requires
 
-pub unreachable-requires : goal.unreachable-requires
-unreachable-requires g c =
+pub end_at-requires : goal.end_at-requires
+end_at-requires g c =
     let held = rw (← c.self.view_is) at c.requires in
-    c.in_default-shorten.ensures.outside
-    (can_shorten c.args.book.now (record { grant = c.self.inside.lease; runner = c.self.inside.runner })
+    can_shorten c.args.book.now (record { grant = c.self.inside.lease; runner = c.self.inside.runner })
     c.is_sound.ensures.tiling held c.is_sound-2.ensures.runner c.args.level c.args.option c.in-Ok.ensures.untried c.in-Ok-copy.copy
-    c.in-Ok.cut c.in-Ok.ensures.cut c.in-Ok-copy.ensures)
+    c.in-Ok.cut c.in-Ok.ensures.cut c.in-Ok-copy.ensures
 
 pub returns-clause-book : goal.returns-clause-book
 returns-clause-book g c =
@@ -61,5 +60,5 @@ returns-clause-holds g c =
     c.in-Ok.cut c.in-Ok-split_compared.id c.in-Ok.ensures.cut c.in-Ok-split_compared.ensures.made in
     split_holds c.args.book.now (record { grant = c.self.inside.lease; runner = c.self.inside.runner })
     c.is_sound.ensures.tiling held c.is_sound-2.ensures.runner c.args.level c.args.option c.in-Ok.ensures.untried c.split_compared.new.self
-    c.in-Ok-copy.copy c.in-Ok.cut c.shorten.new.self c.in-Ok.ensures.cut c.in-Ok-copy.ensures c.in-Ok-shorten.ensures.shortened
+    c.in-Ok-copy.copy c.in-Ok.cut c.end_at.new.self c.in-Ok.ensures.cut c.in-Ok-copy.ensures c.end_at.ensures
     made.book

@@ -1,5 +1,5 @@
 //! The bytes of a row are added to a block: what stands there already is told by its place.
-ghost use Rattle.std.specs.Prelude.{◌≡◌, ◌++◌, [], ◌≤◌, ◌+◌, ◌*◌, length, vec_len, vec_capacity};
+ghost use Rattle.std.specs.Prelude.{◌≡◌, ◌++◌, [], ◌<◌, ◌≤◌, ◌+◌, ◌*◌, length, vec_len, vec_capacity};
 ghost use Rattle.packed_rows.specs.Pieces.{row_bytes, ArePlaces, draft_bytes, Grows, HaveCommon, IsFound, place_of};
 
 /// Where bytes begin in a block with which those of later rows may agree: the last eight long ones that agreed with none.
@@ -32,20 +32,21 @@ impl Bases {
 /// How many bytes at least a piece has that is shared: its place takes sixteen, and what stands before it another sixteen.
 pub(crate) const LONG: usize = 64;
 
-/// How many bytes two lists have in common, in steps of 64.
-fn common_steps(one: &[u8], other: &[u8]) -> usize
+/// How many bytes two lists have in common, in steps of so many.
+fn common_steps(one: &[u8], other: &[u8], size: usize) -> usize
+    requires { 0 < size }
     ensures { HaveCommon result one.now other.now }
 {
     let mut done = 0;
     let mut left = one;
     let mut against = other;
-    'comparing: while left.len() >= 64 && against.len() >= 64 {
-        let (step, rest) = left.split_at(64);
-        let (other_step, other_rest) = against.split_at(64);
+    'comparing: while left.len() >= size && against.len() >= size {
+        let (step, rest) = left.split_at(size);
+        let (other_step, other_rest) = against.split_at(size);
         if step != other_step {
             return done;
         }
-        done += 64;
+        done += size;
         left = rest;
         against = other_rest;
     }
@@ -66,15 +67,26 @@ fn common_bytes(one: &[u8], other: &[u8]) -> usize
     done
 }
 
+/// How many bytes two lists have in common, of which there are few.
+fn common_near(one: &[u8], other: &[u8]) -> usize
+    ensures { HaveCommon result one.now other.now }
+{
+    // Those of the step in which they part are compared one by one.
+    let done = common_steps(one, other, 64);
+    let (_, left) = one.split_at(done);
+    let (_, against) = other.split_at(done);
+    done + common_bytes(left, against)
+}
+
 /// How many bytes two lists have in common, from the first on.
 fn common(one: &[u8], other: &[u8]) -> usize
     ensures { HaveCommon result one.now other.now }
 {
-    // Many at once, and then those of the step in which they part.
-    let done = common_steps(one, other);
+    // To compare a step costs much beside what each of its bytes does, so the first steps are large.
+    let done = common_steps(one, other, 512);
     let (_, left) = one.split_at(done);
     let (_, against) = other.split_at(done);
-    done + common_bytes(left, against)
+    done + common_near(left, against)
 }
 
 /// The longer of what was found and what is found from this place on.

@@ -131,6 +131,24 @@ pub after_more : (b : ℕ) (bs : List ℕ) → 128 ≤ b → after_first (b ∷ 
 unfolding after_first
 after_more b bs l = grind (arith, nat_tests)
 
+-- a number of one byte, and one of two
+pub small_first : (b : ℕ) (bs rest : List ℕ) → b < 128 → bs ≡ b ∷ rest → (numbers_of bs ≡ b ∷ numbers_of rest) × (rest ≡ after_first bs)
+unfolding numbers_of
+small_first b bs rest l e =
+    let n : 0 * 128 + b ≡ b = omega arith in (
+      ap numbers_of e ∙ at_last 0 b rest (omega arith) l ∙ ap (λ m. m ∷ numbers_at 0 rest) n,
+      sym (ap after_first e ∙ after_last b rest l),
+    )
+
+pub pair_first : (a b : ℕ) (bs rest : List ℕ) → 128 ≤ a → a < 256 → b < 128 → bs ≡ a ∷ b ∷ rest
+    → (numbers_of bs ≡ ((a - 128) * 128 + b) ∷ numbers_of rest) × (rest ≡ after_first bs)
+unfolding numbers_of
+pair_first a b bs rest h k l e =
+    let n : 0 * 128 + (a - 128) ≡ a - 128 = omega arith in (
+      ap numbers_of e ∙ at_more 0 a (b ∷ rest) (omega arith) h ∙ ap (λ m. numbers_at m (b ∷ rest)) n ∙ at_last (a - 128) b rest (omega arith) l,
+      sym (ap after_first e ∙ after_more a (b ∷ rest) h ∙ after_last b rest l),
+    )
+
 after_front : (k n : ℕ) (bs : List ℕ) → after_first (front k n ++ bs) ≡ after_first bs
 unfolding front
 after_front zero n bs = refl

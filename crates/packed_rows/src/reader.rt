@@ -23,8 +23,8 @@ impl<'a> Model for Reader<'a> {
     ghost invariant = { λ r. IsSpelled r.rope };
 }
 
-/// Takes the first number of some bytes; none where none is whole.
-fn first(rope: &mut Rope<'_>) -> Option<u64>
+/// Takes the first number of some bytes, in whatever pieces; none where none is whole.
+fn far(rope: &mut Rope<'_>) -> Option<u64>
     ensures number { MatchOption result (numbers_of rope.old ≡ []) (λ n.
         (numbers_of rope.old ≡ n ∷ numbers_of rope.new) × (rope.new ≡ after_first rope.old)) }
     ensures fewer { length rope.new ≤ length rope.old }
@@ -43,6 +43,34 @@ fn first(rope: &mut Rope<'_>) -> Option<u64>
         high = high * 128 + (byte - 128);
     }
     None
+}
+
+/// Takes the first number of some bytes, if it has two at most and they are at hand; else none.
+#[inline(always)]
+fn near(rope: &mut Rope<'_>) -> Option<u64>
+    ensures number { MatchOption result (rope.new ≡ rope.old) (λ n.
+        (numbers_of rope.old ≡ n ∷ numbers_of rope.new) × (rope.new ≡ after_first rope.old)) }
+    ensures fewer { length rope.new ≤ length rope.old }
+{
+    if let Some(byte) = rope.small() {
+        return Some(byte as u64);
+    }
+    let (first, second) = rope.pair()?;
+    Some((first as u64 - 128) * 128 + second as u64)
+}
+
+/// Takes the first number of some bytes; none where none is whole.
+#[inline(always)]
+fn first(rope: &mut Rope<'_>) -> Option<u64>
+    ensures number { MatchOption result (numbers_of rope.old ≡ []) (λ n.
+        (numbers_of rope.old ≡ n ∷ numbers_of rope.new) × (rope.new ≡ after_first rope.old)) }
+    ensures fewer { length rope.new ≤ length rope.old }
+{
+    // Most numbers have few bytes, which stand together.
+    match near(rope) {
+        Some(number) => Some(number),
+        None => far(rope),
+    }
 }
 
 impl<'a> Reader<'a> {

@@ -95,6 +95,40 @@ impl<'a> Rope<'a> {
         Some(*byte)
     }
 
+    /// Takes the first byte, if it is at hand and below 128.
+    #[inline(always)]
+    pub fn small(&mut self) -> Option<u8>
+        ensures { MatchOption result (self.new ≡ self.old) (λ b. (b < 128) × (self.old ≡ b ∷ self.new)) }
+    {
+        let Some((byte, rest)) = self.here.split_first() else {
+            return None;
+        };
+        if *byte >= 128 {
+            return None;
+        }
+        self.here = rest;
+        Some(*byte)
+    }
+
+    /// Takes the first two bytes, if both are at hand, and the second alone is below 128.
+    #[inline(always)]
+    pub fn pair(&mut self) -> Option<(u8, u8)>
+        ensures { MatchOption result (self.new ≡ self.old)
+            (λ p. (128 ≤ p.0) × (p.0 < 256) × (p.1 < 128) × (self.old ≡ p.0 ∷ p.1 ∷ self.new)) }
+    {
+        let Some((first, behind)) = self.here.split_first() else {
+            return None;
+        };
+        let Some((second, rest)) = behind.split_first() else {
+            return None;
+        };
+        if *first < 128 || *second >= 128 {
+            return None;
+        }
+        self.here = rest;
+        Some((*first, *second))
+    }
+
     /// Takes the first bytes, as many as stand together and so many at most; none where none is left.
     pub fn part(&mut self, most: usize) -> &'a [u8]
         requires { 0 < most }

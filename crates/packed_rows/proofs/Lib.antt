@@ -1,3 +1,4 @@
+pub mod KnownLemmas
 pub mod NumberLemmas
 pub mod PieceLemmas
 pub mod RopeLemmas

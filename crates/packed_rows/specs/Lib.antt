@@ -1,3 +1,4 @@
+pub mod Known
 pub mod Numbers
 pub mod Pieces
 pub mod Rows

@@ -2,6 +2,7 @@
 #![tactic(auto)]
 
 mod draft;
+mod known;
 mod reader;
 mod rope;
 mod row;

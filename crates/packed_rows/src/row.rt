@@ -5,7 +5,8 @@ ghost use Rattle.std.specs.List.{flat_map};
 ghost use Rattle.cover_problem.specs.Answers.{Returns};
 ghost use Rattle.packed_rows.specs.Numbers.{front, bytes_of, numbers_of, IsRow};
 
-use crate::draft::LONG;
+use crate::draft::{LONG, put_bytes};
+use crate::known::{Known, STEP};
 use crate::reader::Reader;
 use crate::rope::Rope;
 use std::alloc::{AllocError, Global};
@@ -17,6 +18,8 @@ pub struct Row {
     bytes: Vec<u8>,
     /// Before how many bytes long lists begin: where later rows may agree with it.
     marks: Vec<usize>,
+    /// The long list that was put last, also before all numbers were taken out: the next one mostly begins alike.
+    known: Known,
 }
 
 impl Model for Row {
@@ -80,13 +83,32 @@ fn put_word(bytes: &mut Vec<u8>, n: u32)
 }
 
 /// Adds the bytes of numbers of 32 bits.
-fn put_words(bytes: &mut Vec<u8>, list: &[u32])
+pub(crate) fn put_words(bytes: &mut Vec<u8>, list: &[u32])
     requires room { vec_len bytes.old + 5 * length list.now ≤ vec_capacity bytes.old }
     ensures added { bytes.new.items ≡ bytes.old.items ++ flat_map bytes_of list.now }
 {
     'putting: for n in list {
         put_word(bytes, *n);
     }
+}
+
+/// Adds the bytes of a list; where memory runs out, nothing changes. What a long list has in common with the one before is not made again.
+fn put_numbers(bytes: &mut Vec<u8>, known: &mut Known, list: &[u32]) -> Result<(), AllocError>
+    ensures added { OnOk result (bytes.new.items ≡ bytes.old.items ++ flat_map bytes_of list.now) }
+    ensures unchanged { OnErr result (bytes.new.items ≡ bytes.old.items) }
+{
+    // Five bytes are enough for each number: room is taken once for all.
+    if list.len() < STEP {
+        bytes.reserve(5 * list.len())?;
+        put_words(bytes, list);
+        return Ok(());
+    }
+    let rest = known.learn(list)?;
+    let first = known.bytes();
+    bytes.reserve(rest.len().saturating_mul(5).saturating_add(first.len()))?;
+    put_bytes(bytes, first);
+    put_words(bytes, rest);
+    Ok(())
 }
 
 /// A list of so many numbers begins at a place. A short one is nothing to share.
@@ -106,6 +128,7 @@ impl Row {
         Row {
             bytes: Vec::new(alloc),
             marks: Vec::new(alloc),
+            known: Known::new(alloc),
         }
     }
 
@@ -135,9 +158,7 @@ impl Row {
     {
         let place = self.size();
         mark(&mut self.marks, place, list.len())?;
-        // Five bytes are enough for each: room is taken once for all.
-        self.bytes.reserve(list.len().saturating_mul(5))?;
-        put_words(&mut self.bytes, list);
+        put_numbers(&mut self.bytes, &mut self.known, list)?;
         Ok(())
     }
 
@@ -178,6 +199,11 @@ impl Row {
         let alloc = *self.bytes.allocator();
         let bytes = Vec::from_slice(alloc, &self.bytes)?;
         let marks = Vec::from_slice(alloc, &self.marks)?;
-        Ok(Row { bytes, marks })
+        let known = Known::new(alloc);
+        Ok(Row {
+            bytes,
+            marks,
+            known,
+        })
     }
 }

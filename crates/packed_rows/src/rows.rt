@@ -57,7 +57,7 @@ fn part(list: &[usize], start: usize, end: usize) -> &[usize]
 }
 
 /// Where the row at a place begins.
-fn start_of(ends: &[usize], place: usize) -> usize
+pub(crate) fn start_of(ends: &[usize], place: usize) -> usize
     requires { place ≤ length ends.now }
     ensures { result ≡ start_at 0 ends.now place }
 {

@@ -1,0 +1,88 @@
+-- A list whose bytes are known: fewer steps of it, and a step more.
+use Rattle.std.proofs.Common.{◌≡◌, ℕ, zero, suc, ◌+◌, ◌*◌, ◌<◌, ◌≤◌, List, [], ◌∷◌, ◌++◌, length, take, drop, get_or, refl, sym, ap, ◌∙◌, arith, length-append, inl, inr}
+use Rattle.std.proofs.lemmas.Bool.{cases_lt}
+use Rattle.std.proofs.lemmas.List.{length-take-le, take-take, take-append-le, take-append-drop, take_all}
+use Rattle.std.proofs.Math.Seq.{take-append_seam}
+use Rattle.std.proofs.lemmas.Grind.{flat_map-append}
+use Rattle.std.specs.List.{flat_map}
+use Rattle.cover_problem.specs.FlatLists.{start_at}
+use Rattle.packed_rows.specs.Numbers.{bytes_of}
+use Rattle.packed_rows.specs.Known.{IsKnown}
+use Rattle.packed_rows.specs.Pieces.{HaveCommon}
+
+pub known_none : IsKnown [] [] []
+known_none = record { spelled = refl; steps = refl; places = none_before }
+  where
+    none_before : (k : ℕ) → k ≤ 0 → start_at 0 [] k ≡ length (flat_map bytes_of (take (64 * k) []))
+    none_before zero l = refl
+    none_before (suc k) l = absurd (omega arith)
+
+-- ---- places of steps
+
+get_or-front : (xs ys : List ℕ) (k : ℕ) → k < length xs → get_or (xs ++ ys) k 0 ≡ get_or xs k 0
+get_or-front [] ys k l = absurd (omega arith)
+get_or-front (x ∷ xs) ys zero l = refl
+get_or-front (x ∷ xs) ys (suc k) l = get_or-front xs ys k (omega arith)
+
+get_or-last : (xs : List ℕ) (x : ℕ) → get_or (xs ++ x ∷ []) (length xs) 0 ≡ x
+get_or-last [] x = refl
+get_or-last (y ∷ xs) x = get_or-last xs x
+
+start_front : (xs ys : List ℕ) (k : ℕ) → k ≤ length xs → start_at 0 (xs ++ ys) k ≡ start_at 0 xs k
+start_front xs ys zero l = refl
+start_front xs ys (suc k) l = get_or-front xs ys k (omega arith)
+
+start_taken : (xs : List ℕ) (n k : ℕ) → k ≤ n → n ≤ length xs → start_at 0 (take n xs) k ≡ start_at 0 xs k
+start_taken xs n k l m =
+    let t = length-take-le n xs m in
+    sym (start_front (take n xs) (drop n xs) k (omega arith)) ∙ ap (λ ys. start_at 0 ys k) (take-append-drop n xs)
+
+-- ---- fewer steps
+
+pub known_kept : (ns bs es : List ℕ) (s e : ℕ) → IsKnown ns bs es → s ≤ length es → e ≡ start_at 0 es s
+    → IsKnown (take (64 * s) ns) (take e bs) (take s es)
+known_kept ns bs es s e k l h =
+    let n = k.steps in
+    let front = flat_map bytes_of (take (64 * s) ns) in let back = flat_map bytes_of (drop (64 * s) ns) in
+    let all : bs ≡ front ++ back =
+    k.spelled ∙ ap (flat_map bytes_of) (sym (take-append-drop (64 * s) ns)) ∙ flat_map-append bytes_of (take (64 * s) ns) (drop (64 * s) ns) in
+    let end : e ≡ length front = h ∙ k.places s l in
+    let few = length-take-le s es l in
+    record {
+      spelled = (λ j. take (end j) (all j)) ∙ take-append_seam front back;
+      steps = length-take-le (64 * s) ns (omega arith) ∙ ap (λ m. 64 * m) (sym few);
+      places = λ i m. start_taken es s i (omega arith) l ∙ k.places i (omega arith)
+          ∙ ap (λ xs. length (flat_map bytes_of xs)) (sym (take-take (64 * i) (64 * s) ns (omega arith)));
+    }
+
+-- ---- a step more
+
+pub known_more : (ns bs es step new ends : List ℕ) → IsKnown ns bs es → length step ≡ 64 → new ≡ bs ++ flat_map bytes_of step
+    → ends ≡ es ++ length new ∷ [] → IsKnown (ns ++ step) new ends
+known_more ns bs es step new ends k l e f =
+    let n = k.steps in let long = length-append ns step in let many = ap length f in let m = length-append es (length new ∷ []) in
+    let spelled : new ≡ flat_map bytes_of (ns ++ step) =
+    e ∙ ap (λ xs. xs ++ flat_map bytes_of step) k.spelled ∙ sym (flat_map-append bytes_of ns step) in
+    record {
+      spelled = spelled;
+      steps = omega arith;
+      places = λ i h. ap (λ xs. start_at 0 xs i) f ∙ ends_more i (omega arith) spelled;
+    }
+  where
+    ends_more : (i : ℕ) → i ≤ suc (length es) → new ≡ flat_map bytes_of (ns ++ step)
+        → start_at 0 (es ++ length new ∷ []) i ≡ length (flat_map bytes_of (take (64 * i) (ns ++ step)))
+    ends_more i h s =
+        let n = k.steps in let long = length-append ns step in
+        elim (cases_lt (length es) i) [
+          | inl p ↦ let q : i ≡ suc (length es) = omega arith in
+              ap (start_at 0 (es ++ length new ∷ [])) q ∙ get_or-last es (length new) ∙ ap length s
+              ∙ ap (λ xs. length (flat_map bytes_of xs)) (sym (take_all (64 * i) (ns ++ step) (omega arith)))
+          | inr p ↦ start_front es (length new ∷ []) i (omega arith) ∙ k.places i (omega arith)
+              ∙ ap (λ xs. length (flat_map bytes_of xs)) (sym (take-append-le (64 * i) ns step (omega arith)))
+        ]
+
+-- ---- a list is learned
+
+-- what both have in common stands there, and the rest is left
+pub begins_alike : (n : ℕ) (known list rest : List ℕ) → HaveCommon n known list → rest ≡ drop n list → list ≡ take n known ++ rest
+begins_alike n known list rest c e = sym (take-append-drop n list) ∙ (λ j. sym c.same j ++ sym e j)

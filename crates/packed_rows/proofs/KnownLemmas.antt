@@ -1,5 +1,5 @@
 -- A list whose bytes are known: fewer steps of it, and a step more.
-use Rattle.std.proofs.Common.{◌≡◌, ℕ, zero, suc, ◌+◌, ◌*◌, ◌<◌, ◌≤◌, List, [], ◌∷◌, ◌++◌, length, take, drop, get_or, refl, sym, ap, ◌∙◌, arith, length-append, inl, inr}
+use Rattle.std.proofs.Common.{◌≡◌, ℕ, zero, suc, ◌*◌, ◌<◌, ◌≤◌, List, [], ◌∷◌, ◌++◌, length, take, drop, get_or, refl, sym, ap, ◌∙◌, arith, length-append, inl, inr}
 use Rattle.std.proofs.lemmas.Bool.{cases_lt}
 use Rattle.std.proofs.lemmas.List.{length-take-le, take-take, take-append-le, take-append-drop, take_all}
 use Rattle.std.proofs.Math.Seq.{take-append_seam}
@@ -9,13 +9,6 @@ use Rattle.cover_problem.specs.FlatLists.{start_at}
 use Rattle.packed_rows.specs.Numbers.{bytes_of}
 use Rattle.packed_rows.specs.Known.{IsKnown}
 use Rattle.packed_rows.specs.Pieces.{HaveCommon}
-
-pub known_none : IsKnown [] [] []
-known_none = record { spelled = refl; steps = refl; places = none_before }
-  where
-    none_before : (k : ℕ) → k ≤ 0 → start_at 0 [] k ≡ length (flat_map bytes_of (take (64 * k) []))
-    none_before zero l = refl
-    none_before (suc k) l = absurd (omega arith)
 
 -- ---- places of steps
 
@@ -54,35 +47,3 @@ known_kept ns bs es s e k l h =
       places = λ i m. start_taken es s i (omega arith) l ∙ k.places i (omega arith)
           ∙ ap (λ xs. length (flat_map bytes_of xs)) (sym (take-take (64 * i) (64 * s) ns (omega arith)));
     }
-
--- ---- a step more
-
-pub known_more : (ns bs es step new ends : List ℕ) → IsKnown ns bs es → length step ≡ 64 → new ≡ bs ++ flat_map bytes_of step
-    → ends ≡ es ++ length new ∷ [] → IsKnown (ns ++ step) new ends
-known_more ns bs es step new ends k l e f =
-    let n = k.steps in let long = length-append ns step in let many = ap length f in let m = length-append es (length new ∷ []) in
-    let spelled : new ≡ flat_map bytes_of (ns ++ step) =
-    e ∙ ap (λ xs. xs ++ flat_map bytes_of step) k.spelled ∙ sym (flat_map-append bytes_of ns step) in
-    record {
-      spelled = spelled;
-      steps = omega arith;
-      places = λ i h. ap (λ xs. start_at 0 xs i) f ∙ ends_more i (omega arith) spelled;
-    }
-  where
-    ends_more : (i : ℕ) → i ≤ suc (length es) → new ≡ flat_map bytes_of (ns ++ step)
-        → start_at 0 (es ++ length new ∷ []) i ≡ length (flat_map bytes_of (take (64 * i) (ns ++ step)))
-    ends_more i h s =
-        let n = k.steps in let long = length-append ns step in
-        elim (cases_lt (length es) i) [
-          | inl p ↦ let q : i ≡ suc (length es) = omega arith in
-              ap (start_at 0 (es ++ length new ∷ [])) q ∙ get_or-last es (length new) ∙ ap length s
-              ∙ ap (λ xs. length (flat_map bytes_of xs)) (sym (take_all (64 * i) (ns ++ step) (omega arith)))
-          | inr p ↦ start_front es (length new ∷ []) i (omega arith) ∙ k.places i (omega arith)
-              ∙ ap (λ xs. length (flat_map bytes_of xs)) (sym (take-append-le (64 * i) ns step (omega arith)))
-        ]
-
--- ---- a list is learned
-
--- what both have in common stands there, and the rest is left
-pub begins_alike : (n : ℕ) (known list rest : List ℕ) → HaveCommon n known list → rest ≡ drop n list → list ≡ take n known ++ rest
-begins_alike n known list rest c e = sym (take-append-drop n list) ∙ (λ j. sym c.same j ++ sym e j)

@@ -1,7 +1,7 @@
 -- Numbers are read back from their bytes.
-use Rattle.std.proofs.Common.{◌≡◌, ℕ, zero, suc, ◌+◌, ◌-◌, ◌*◌, ◌/◌, ◌%◌, ◌^◌, ◌<◌, ◌≤◌, List, [], ◌∷◌, ◌++◌, length, refl, sym, ap, ◌∙◌, arith, length-append, append_assoc, pow-suc, drop, get_or, inl, inr}
+use Rattle.std.proofs.Common.{◌≡◌, ℕ, zero, suc, ◌+◌, ◌-◌, ◌*◌, ◌/◌, ◌%◌, ◌^◌, ◌<◌, ◌≤◌, List, [], ◌∷◌, ◌++◌, length, refl, sym, ap, ◌∙◌, arith, length-append, append_assoc, pow-suc, inl, inr}
 use Rattle.std.proofs.lemmas.Bool.{cases_lt}
-use Rattle.std.proofs.lemmas.List.{append-nil, drop_more, drop_all}
+use Rattle.std.proofs.lemmas.List.{append-nil}
 use Rattle.std.proofs.lemmas.Bool.Decides.{nat_tests}
 use Rattle.std.proofs.lemmas.Grind.{flat_map-append}
 use Rattle.std.specs.List.{flat_map}
@@ -100,22 +100,7 @@ whole_put bs n w h =
       spelled = spelled_put bs n w.spelled more;
     }
 
--- ---- steps of a reader, which has read `high` of a number, and stands at place i
-
-pub step_last : (high i : ℕ) (bs : List ℕ) → i < length bs → high < most_before → get_or bs i 0 < 128
-    → numbers_at high (drop i bs) ≡ (high * 128 + get_or bs i 0) ∷ numbers_of (drop (i + 1) bs)
-unfolding numbers_of
-step_last high i bs l h m = ap (numbers_at high) (drop_more bs i 0 l) ∙ at_last high (get_or bs i 0) (drop (i + 1) bs) h m
-
-pub step_more : (high i : ℕ) (bs : List ℕ) → i < length bs → high < most_before → 128 ≤ get_or bs i 0
-    → numbers_at high (drop i bs) ≡ numbers_at (high * 128 + (get_or bs i 0 - 128)) (drop (i + 1) bs)
-step_more high i bs l h m = ap (numbers_at high) (drop_more bs i 0 l) ∙ at_more high (get_or bs i 0) (drop (i + 1) bs) h m
-
-pub step_full : (high i : ℕ) (bs : List ℕ) → i < length bs → most_before ≤ high → numbers_at high (drop i bs) ≡ []
-step_full high i bs l h = ap (numbers_at high) (drop_more bs i 0 l) ∙ at_full high (get_or bs i 0) (drop (i + 1) bs) h
-
-pub step_none : (high i : ℕ) (bs : List ℕ) → length bs ≤ i → numbers_at high (drop i bs) ≡ []
-step_none high i bs l = ap (numbers_at high) (drop_all i bs l) ∙ at_none high
+-- ---- the first number
 
 pub begins : (bs : List ℕ) → numbers_at 0 bs ≡ numbers_of bs
 unfolding numbers_of
@@ -168,13 +153,6 @@ pub spelled_rest : (bs rest : List ℕ) (n : ℕ) → IsSpelled bs → numbers_o
 spelled_rest bs rest n s e a =
     let m = s ∙ ap (flat_map bytes_of) e in
     a ∙ ap after_first m ∙ after_bytes n (flat_map bytes_of (numbers_of rest))
-
--- a byte that is read in the midst
-pub steps_last : (i : ℕ) (bs : List ℕ) → i < length bs → get_or bs i 0 < 128 → drop (i + 1) bs ≡ after_first (drop i bs)
-steps_last i bs l m = sym (ap after_first (drop_more bs i 0 l) ∙ after_last (get_or bs i 0) (drop (i + 1) bs) m)
-
-pub steps_more : (i : ℕ) (bs : List ℕ) → i < length bs → 128 ≤ get_or bs i 0 → after_first (drop (i + 1) bs) ≡ after_first (drop i bs)
-steps_more i bs l m = sym (ap after_first (drop_more bs i 0 l) ∙ after_more (get_or bs i 0) (drop (i + 1) bs) m)
 
 -- ---- a number is put
 

@@ -1,24 +1,9 @@
 -- Rows in pieces of a block: reading a piece, and a piece more.
-use Rattle.std.proofs.Common.{◌≡◌, ℕ, zero, suc, ◌+◌, ◌-◌, ◌<◌, ◌≤◌, List, [], ◌∷◌, ◌++◌, length, take, drop, get_or, refl, sym, ap, ◌∙◌, subst, arith, length-append, append_assoc}
+use Rattle.std.proofs.Common.{◌≡◌, ℕ, zero, suc, ◌+◌, ◌-◌, ◌<◌, ◌≤◌, List, [], ◌∷◌, ◌++◌, length, take, drop, refl, sym, ap, ◌∙◌, subst, arith, append_assoc}
 use Rattle.std.proofs.lemmas.Bool.Decides.{nat_tests}
-use Rattle.std.proofs.lemmas.List.{append-nil, drop-append-le, take-append-le, length-drop, length-take-le, take_all, take-append-drop, drop_all, drop-drop}
+use Rattle.std.proofs.lemmas.List.{append-nil, drop-append-le, take-append-le, length-drop, take_all, take-append-drop, drop-drop}
 use Rattle.std.proofs.Math.Seq.{take-add, drop-append_seam}
-use Rattle.packed_rows.specs.Pieces.{row_bytes, ArePlaces, draft_bytes, Grows, HaveCommon, IsFound, place_of}
-
--- ---- the next piece
-
--- what the first two places tell, and what is behind them
-pub record IsLead (block places : List ℕ) : Type 0 where
-  pub two : 2 ≤ length places
-  pub some : 0 < get_or (take 2 places) 1 0
-  pub within : get_or (take 2 places) 0 0 + get_or (take 2 places) 1 0 ≤ length block
-  pub rest : ArePlaces (length block) (drop 2 places)
-  pub bytes : row_bytes block places ≡ take (get_or (take 2 places) 1 0) (drop (get_or (take 2 places) 0 0) block) ++ row_bytes block (drop 2 places)
-
-pub lead_is : (block places : List ℕ) → 0 < length places → ArePlaces (length block) places → IsLead block places
-lead_is block [] l a = absurd (omega arith)
-lead_is block (s ∷ []) l a = absurd a
-lead_is block (s ∷ n ∷ ps) l a = record { two = omega arith; some = a.0; within = a.1; rest = a.2; bytes = refl }
+use Rattle.packed_rows.specs.Pieces.{row_bytes, ArePlaces, draft_bytes, HaveCommon, IsFound, place_of}
 
 -- ---- places
 
@@ -101,19 +86,7 @@ draft_shared block places part mid next new from start size l a f e g h =
           ∙ ap (λ xs. draft_bytes block places from ++ xs) (take-append-drop size part),
     )
 
-pub grows_same : (block : List ℕ) → Grows block block
-grows_same block = ([], sym (append-nil block))
-
-pub grows_by : (block more new : List ℕ) → new ≡ block ++ more → Grows block new
-grows_by block more new e = (more, e)
-
-pub grows_again : (a b c : List ℕ) → Grows a b → Grows b c → Grows a c
-grows_again a b c g h = (g.0 ++ h.0, h.1 ∙ ap (λ xs. xs ++ h.0) g.1 ∙ append_assoc a g.0 h.0)
-
 -- ---- what two lists have in common
-
-pub common_none : (one other : List ℕ) → HaveCommon 0 one other
-common_none one other = record { same = refl; first = omega arith; second = omega arith }
 
 -- so many more
 pub common_more : (n m : ℕ) (one other : List ℕ) → HaveCommon n one other → HaveCommon m (drop n one) (drop n other) → HaveCommon (n + m) one other
@@ -124,14 +97,6 @@ common_more n m one other h g =
       first = omega arith;
       second = omega arith;
     }
-
-pub found_none : (block list : List ℕ) → IsFound block list 0 0
-found_none block list = record { same = refl; first = omega arith; within = omega arith }
-
-pub found_here : (block list : List ℕ) (start size : ℕ) → start ≤ length block → HaveCommon size list (drop start block) → IsFound block list start size
-found_here block list start size l h =
-    let p = length-drop start block in let s = h.second in
-    record { same = h.same; first = h.first; within = omega arith }
 
 -- so many more, where what is left is known
 pub common_rest : (n m : ℕ) (one other left against : List ℕ) → HaveCommon n one other → left ≡ drop n one → against ≡ drop n other

@@ -3,6 +3,8 @@
 
 mod draft;
 mod known;
+#[cfg(test)]
+mod list_tests;
 mod reader;
 mod rope;
 mod row;

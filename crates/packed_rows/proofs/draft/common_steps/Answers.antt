@@ -1,4 +1,4 @@
-use Rattle.std.proofs.Common.{◌∙◌, sym, arith}
+use Rattle.std.proofs.Common.{◌∙◌, sym}
 use Rattle.packed_rows.proofs.PieceLemmas.{common_step}
 use Rattle.packed_rows.proofs.RopeLemmas.{same_bytes}
 use Rattle.packed_rows.proofs.draft.common_steps.Goals as goal

@@ -1,5 +1,5 @@
-use Rattle.std.proofs.Common.{◌≡◌, ◌+◌, ◌-◌, ◌++◌, length, ap, sym, ◌∙◌, subst, arith, length-append}
-use Rattle.packed_rows.specs.Pieces.{ArePlaces, IsFound, place_of, draft_bytes}
+use Rattle.std.proofs.Common.{◌-◌, ◌++◌, length, ap, ◌∙◌, subst, arith, length-append}
+use Rattle.packed_rows.specs.Pieces.{IsFound, place_of, draft_bytes}
 use Rattle.packed_rows.proofs.PieceLemmas.{draft_more, places_more, draft_shared}
 use Rattle.packed_rows.proofs.draft.put_part.Goals as goal
 

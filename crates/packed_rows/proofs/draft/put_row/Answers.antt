@@ -1,5 +1,5 @@
-use Rattle.std.proofs.Common.{◌≡◌, ◌+◌, ◌-◌, ◌++◌, length, ap, sym, ◌∙◌, subst, arith, length-append}
-use Rattle.packed_rows.specs.Pieces.{ArePlaces, place_of}
+use Rattle.std.proofs.Common.{◌-◌, ◌++◌, ap, ◌∙◌}
+use Rattle.packed_rows.specs.Pieces.{place_of}
 use Rattle.packed_rows.proofs.PieceLemmas.{draft_closed}
 use Rattle.packed_rows.proofs.draft.put_row.Goals as goal
 

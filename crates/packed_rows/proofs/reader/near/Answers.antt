@@ -1,4 +1,4 @@
-use Rattle.std.proofs.Common.{◌∙◌, sym, arith}
+use Rattle.std.proofs.Common.{◌∙◌, sym}
 use Rattle.packed_rows.proofs.NumberLemmas.{small_first, pair_first}
 use Rattle.packed_rows.proofs.reader.near.Goals as goal
 

@@ -1,4 +1,4 @@
-use Rattle.std.proofs.Common.{◌≡◌, ◌++◌, ◌∙◌, refl, sym, ap, length, arith, length-append}
+use Rattle.std.proofs.Common.{◌++◌, ◌∙◌, refl, sym, ap}
 use Rattle.std.proofs.lemmas.List.{append_cancel_left}
 use Rattle.packed_rows.proofs.rope.same.Goals as goal
 

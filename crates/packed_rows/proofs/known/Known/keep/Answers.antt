@@ -1,6 +1,5 @@
-use Rattle.std.proofs.Common.{◌≡◌, ◌*◌, List, ℕ, length, take, ◌∙◌, sym, ap, subst, arith}
+use Rattle.std.proofs.Common.{length, ◌∙◌, ap, arith}
 use Rattle.cover_problem.specs.FlatLists.{start_at}
-use Rattle.packed_rows.specs.Known.{IsKnown}
 use Rattle.packed_rows.proofs.KnownLemmas.{known_kept}
 use Rattle.packed_rows.proofs.known.Known.keep.Goals as goal
 

@@ -1,5 +1,4 @@
 use Rattle.std.proofs.Common.{◌≡◌, ◌↔◌, [], IsTrue, ◌∙◌, sym, subst}
-use Rattle.packed_rows.specs.Numbers.{IsSpelled, numbers_of}
 use Rattle.packed_rows.proofs.RopeLemmas.{no_number}
 use Rattle.packed_rows.proofs.reader.Reader.is_empty.Goals as goal
 

@@ -1,7 +1,6 @@
-use Rattle.std.proofs.Common.{◌∙◌, ap, ◌++◌, ◌∷◌, [], arith}
-use Rattle.std.specs.List.{flat_map}
+use Rattle.std.proofs.Common.{◌∙◌, ap, ◌++◌, arith}
 use Rattle.cover_problem.proofs.FlatListLemmas.{same_default}
-use Rattle.packed_rows.specs.Numbers.{numbers_of, bytes_of}
+use Rattle.packed_rows.specs.Numbers.{numbers_of}
 use Rattle.packed_rows.proofs.RowLemmas.{reads_all, whole_all}
 use Rattle.packed_rows.proofs.row.Row.put_list.Goals as goal
 

@@ -1,6 +1,4 @@
 use Rattle.std.proofs.Common.{ℕ, ◌-◌, ◌++◌, ◌∷◌, [], List, length, ◌∙◌, ap, arith}
-use Rattle.std.specs.List.{flat_map}
-use Rattle.packed_rows.specs.Numbers.{bytes_of}
 use Rattle.packed_rows.specs.Rows.{RowsValue, rows_at}
 use Rattle.cover_problem.proofs.FlatListLemmas.{same_default}
 use Rattle.packed_rows.proofs.RowLemmas.{one_piece_more}

@@ -1,5 +1,4 @@
-use Rattle.std.proofs.Common.{ℕ, ◌++◌, ◌∷◌, [], List, length, ◌∙◌, sym, ap, subst, arith}
-use Rattle.packed_rows.specs.Numbers.{numbers_of}
+use Rattle.std.proofs.Common.{ℕ, ◌++◌, ◌∷◌, [], List, ◌∙◌, ap, arith}
 use Rattle.packed_rows.specs.Rows.{RowsValue, rows_at}
 use Rattle.packed_rows.proofs.RowLemmas.{one_pushed}
 use Rattle.packed_rows.proofs.rows.Rows.push.Goals as goal

@@ -1,7 +1,7 @@
 use Rattle.std.proofs.Common.{◌≡◌, ℕ, List, ◌-◌, [], length, take, drop, get_or, ◌∙◌, sym, ap, subst, arith}
 use Rattle.packed_rows.specs.Numbers.{numbers_of, IsSpelled}
 use Rattle.packed_rows.specs.Pieces.{row_bytes, ArePlaces}
-use Rattle.cover_problem.specs.FlatLists.{start_at, lists_at}
+use Rattle.cover_problem.specs.FlatLists.{start_at}
 use Rattle.packed_rows.specs.Rows.{RowsValue}
 use Rattle.cover_problem.proofs.FlatListLemmas.{same_default}
 use Rattle.packed_rows.proofs.RowLemmas.{row_here}

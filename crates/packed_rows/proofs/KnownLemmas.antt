@@ -1,14 +1,12 @@
 -- A list whose bytes are known: fewer steps of it, and a step more.
-use Rattle.std.proofs.Common.{◌≡◌, ℕ, zero, suc, ◌*◌, ◌<◌, ◌≤◌, List, [], ◌∷◌, ◌++◌, length, take, drop, get_or, refl, sym, ap, ◌∙◌, arith, length-append, inl, inr}
-use Rattle.std.proofs.lemmas.Bool.{cases_lt}
-use Rattle.std.proofs.lemmas.List.{length-take-le, take-take, take-append-le, take-append-drop, take_all}
+use Rattle.std.proofs.Common.{◌≡◌, ℕ, zero, suc, ◌*◌, ◌<◌, ◌≤◌, List, [], ◌∷◌, ◌++◌, length, take, drop, get_or, refl, sym, ap, ◌∙◌, arith}
+use Rattle.std.proofs.lemmas.List.{length-take-le, take-take, take-append-drop}
 use Rattle.std.proofs.Math.Seq.{take-append_seam}
 use Rattle.std.proofs.lemmas.Grind.{flat_map-append}
 use Rattle.std.specs.List.{flat_map}
 use Rattle.cover_problem.specs.FlatLists.{start_at}
 use Rattle.packed_rows.specs.Numbers.{bytes_of}
 use Rattle.packed_rows.specs.Known.{IsKnown}
-use Rattle.packed_rows.specs.Pieces.{HaveCommon}
 
 -- ---- places of steps
 
@@ -16,10 +14,6 @@ get_or-front : (xs ys : List ℕ) (k : ℕ) → k < length xs → get_or (xs ++ 
 get_or-front [] ys k l = absurd (omega arith)
 get_or-front (x ∷ xs) ys zero l = refl
 get_or-front (x ∷ xs) ys (suc k) l = get_or-front xs ys k (omega arith)
-
-get_or-last : (xs : List ℕ) (x : ℕ) → get_or (xs ++ x ∷ []) (length xs) 0 ≡ x
-get_or-last [] x = refl
-get_or-last (y ∷ xs) x = get_or-last xs x
 
 start_front : (xs ys : List ℕ) (k : ℕ) → k ≤ length xs → start_at 0 (xs ++ ys) k ≡ start_at 0 xs k
 start_front xs ys zero l = refl

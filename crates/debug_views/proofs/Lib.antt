@@ -1,4 +1,5 @@
 pub mod MetLemmas
+pub mod PlaceLemmas
 pub mod ItemLemmas
 pub mod LineLemmas
 pub mod CallLemmas

@@ -2,15 +2,13 @@
 --
 -- Example: the new book of the small problem has the line `branch start to end waiting`; its tile is the one that begins at the start, and none
 -- begins at the cut 4. proofs/ViewExamples.antt computes it.
-use Rattle.std.specs.Prelude.{ℕ, ◌≡◌, Bool, true, false, not, ◌&&◌, List, [], ◌∷◌, ◌++◌, length, map, filter, Option, Some, None, option_copied}
+use Rattle.std.specs.Prelude.{ℕ, ◌≡◌, ◌<◌, Bool, true, false, not, ◌&&◌, List, [], ◌∷◌, ◌++◌, length, map, filter, Option, Some, None, option_copied}
 use Rattle.std.specs.Borrow.{Bor}
 use Rattle.std.specs.List.{position}
 use Rattle.std.specs.Str.{bytes_eq}
 use Rattle.lab_book.specs.declared.status.Status.{Status}
 use Rattle.lab_book.specs.declared.status.Status.TheVariants.{Waiting, Held, Leased, Closed}
 use Rattle.lab_history.specs.declared.entry.Call.{Call}
-use Rattle.lab_history.specs.declared.entry.Call.TheVariants as call
-use Rattle.lab_history.specs.declared.entry.Reply.TheVariants as replies
 use Rattle.lab_book.specs.Tile.{TileValue, is_closed}
 use Rattle.lab_book.specs.Tiling.{tile_at}
 use Rattle.lab_book.specs.Book.{BookValue, book_step, cut_path}
@@ -69,7 +67,11 @@ same_cut _ _ = false
 abbrev pub is_begun_at : Option (List ℕ) → TileValue → Bool
 is_begun_at lo t = not (is_closed t.status) && same_cut (cut_path t.branch.lo) lo
 
--- the place of the tile that does
+-- the tile at a place begins at a cut
+abbrev pub BeginsAt : Option (List ℕ) → List TileValue → ℕ → Type 0
+BeginsAt lo ts i = (i < length ts) × (cut_path (tile_at ts i).branch.lo ≡ lo)
+
+-- the place of the tile that begins at a cut, and isn't closed
 abbrev pub place_at : Option (List ℕ) → List TileValue → Option ℕ
 place_at lo ts = position (is_begun_at lo) ts
 

@@ -1,7 +1,7 @@
 //! Which tile a cut names, and how tiles are shown.
-ghost use Rattle.std.specs.Prelude.{◌≡◌, ◌<◌, length, OnOk, IfSome};
+ghost use Rattle.std.specs.Prelude.{◌≡◌, ◌<◌, ℕ, length, OnOk, IfSome};
 ghost use Rattle.debug_views.specs.Lines.{book_refusal};
-ghost use Rattle.debug_views.specs.Tiles.{given_cut, is_begun_at, place_at, standing_of, tile_line, open_lines, branches_lines, posted_lines};
+ghost use Rattle.debug_views.specs.Tiles.{given_cut, is_begun_at, place_at, BeginsAt, standing_of, tile_line, open_lines, branches_lines, posted_lines};
 ghost use Rattle.cover_problem.specs.Answers.{AddsLine};
 ghost use Rattle.x_texts.specs.Writes.{AddsLines};
 
@@ -21,12 +21,37 @@ fn is_begun_at(tile: &Tile<'_>, lo: Option<&[u32]>) -> bool
     !tile.status().is_closed() && choices(tile.lo()) == lo
 }
 
+/// The one place where a tile may begin at a cut, None for the start of the run.
+fn seek(book: &Book<'_>, lo: Option<&[u32]>) -> usize
+    ensures { (i : ℕ) → BeginsAt (given_cut lo.entry) book.now.tiles i → i ≡ result }
+{
+    let tiles = book.tiles();
+    let mut low = 0;
+    let mut high = tiles.len();
+    // Tiles stand in the order in which they begin on the run, so half of those that are left are passed over at once.
+    'seeking: while low < high {
+        let middle = low + (high - low) / 2;
+        if tiles[middle].branch().begins_before(lo) {
+            low = middle + 1;
+        } else {
+            high = middle;
+        }
+    }
+    low
+}
+
 /// The place of the tile that begins at a cut and isn't closed.
 pub fn place_at(book: &Book<'_>, lo: Option<&[u32]>) -> Option<usize>
     ensures place { result ≡ place_at (given_cut lo.entry) book.now.tiles }
     ensures within { IfSome result (λ i. i < length book.now.tiles) }
 {
-    book.tiles().iter().position(|tile| is_begun_at(tile, lo))
+    let place = seek(book, lo);
+    let tiles = book.tiles();
+    if place < tiles.len() && is_begun_at(&tiles[place], lo) {
+        Some(place)
+    } else {
+        None
+    }
 }
 
 /// How a tile stands that isn't closed.

@@ -1,5 +1,5 @@
 //! Books.
-ghost use Rattle.std.specs.Prelude.{◌≡◌, IfSome, IfErr, OnOk};
+ghost use Rattle.std.specs.Prelude.{◌≡◌, ◌<◌, length, IfSome, IfErr, OnOk};
 ghost use Rattle.cover_problem.specs.Answers.{Returns};
 ghost use Rattle.x_steps.specs.StateView.{state_value};
 ghost use Rattle.x_steps.specs.StateValue.{start};
@@ -219,11 +219,19 @@ impl<'p> Book<'p> {
         self.tiles.leased()
     }
 
-    /// The place of the tile with an id among the tiles, without a look at the others; None where no tile has it.
+    /// The place of the tile with an id among the tiles; None where no tile has it.
     pub fn place(&self, id: u64) -> Option<usize>
         ensures { result ≡ tile_place id self.now.tiles }
     {
         self.tiles.place(id)
+    }
+
+    /// Looks for the tile at this place there from now on, so that a call by its id finds it at once.
+    pub fn keep_place(&mut self, place: usize)
+        requires { place < length self.old.tiles }
+        ensures { self.new ≡ self.old }
+    {
+        self.tiles.keep_place(place);
     }
 
     /// The entries of all calls in order: the book is their replay, with each reply.

@@ -15,6 +15,7 @@ mod totals;
 use crate::status::Status;
 use cover_problem::Lists;
 use lab_history::Mark;
+use packed_rows::Row;
 use std::alloc::{AllocError, Global};
 use std::marker::Model;
 use x_branches::{Branch, Cut, KeptStretches, Stretch};
@@ -255,8 +256,8 @@ impl<'p> Tile<'p> {
         parts.stop = stop;
     }
 
-    /// Adds a stretch; where memory runs out, nothing changes and it comes back.
-    pub(crate) fn add(&mut self, stretch: Stretch<'p>) -> Result<(), Stretch<'p>>
+    /// Adds a stretch, whose row is made in a draft; where memory runs out, nothing changes and it comes back.
+    pub(crate) fn add(&mut self, draft: &mut Row, stretch: Stretch<'p>) -> Result<(), Stretch<'p>>
         ensures added { OnOk result (self.new ≡ posted_tile self.old stretch.entry) }
         ensures unchanged { OnErr result (self.new ≡ self.old) }
         ensures given_back { IfErr result (λ s. s ≡ stretch.entry) }
@@ -266,7 +267,7 @@ impl<'p> Tile<'p> {
             return Err(stretch);
         };
         let parts = &mut *self.parts;
-        parts.stretches.push(stretch)?;
+        parts.stretches.push(draft, stretch)?;
         parts.mark = mark;
         Ok(())
     }

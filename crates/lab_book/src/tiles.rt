@@ -13,6 +13,7 @@ mod splits;
 use crate::status::Status;
 use crate::tile::Tile;
 use lab_history::{BookFault, Grant, Mark};
+use packed_rows::Row;
 use std::alloc::{AllocError, Global};
 use std::marker::Model;
 use x_branches::Stretch;
@@ -27,6 +28,8 @@ pub(crate) struct Tiles<'p> {
     from: usize,
     waiting: usize,
     leased: usize,
+    /// The row of the last stretch that was added: the next one mostly has the same long lists.
+    draft: Row,
 }
 
 impl<'p> Model for Tiles<'p> {
@@ -125,6 +128,7 @@ impl<'p> Tiles<'p> {
             from: 0,
             waiting: 1,
             leased: 0,
+            draft: Row::new(alloc),
         })
     }
 
@@ -242,7 +246,7 @@ impl<'p> Tiles<'p> {
     }
 
     /// The tile at a place isn't looked for before it any more.
-    fn keep_place(&mut self, i: usize)
+    pub fn keep_place(&mut self, i: usize)
         requires { i < length self.old }
         ensures { self.new ≡ self.old }
     {
@@ -299,7 +303,7 @@ impl<'p> Tiles<'p> {
         ensures given_back { IfErr result (λ s. s ≡ stretch.entry) }
     {
         self.keep_place(i);
-        self.list[i].add(stretch)
+        self.list[i].add(&mut self.draft, stretch)
     }
 
     /// Takes the last stretch of the tile at a place out: its mark is this one then.

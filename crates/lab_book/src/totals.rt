@@ -1,5 +1,5 @@
 //! Totals for each level.
-ghost use Rattle.std.specs.Prelude.{◌≡◌, ◌≤◌, ◌+◌, ℕ, IfOk, length, replicate, slice_index};
+ghost use Rattle.std.specs.Prelude.{◌≡◌, ◌≤◌, ◌+◌, ◌++◌, ℕ, IfOk, length, replicate, slice_index};
 ghost use Rattle.x_codes.specs.StateCode.{path_of};
 ghost use Rattle.x_branches.specs.Refusals.{most_steps};
 ghost use Rattle.lab_book.specs.Posted.{HaveRoom};
@@ -17,7 +17,7 @@ pub(crate) fn no_totals(alloc: Global, items: u32) -> Result<Vec<u128>, AllocErr
 }
 
 /// Adds to each total its count, as far as there are counts: first their number is read, and then each.
-pub(crate) fn add_counts(totals: &mut [u128], counts: Reader<'_>)
+fn add_counts(totals: &mut [u128], counts: Reader<'_>)
     requires levels { length (path_of counts) ≤ length totals.old }
     requires room { HaveRoom totals.old most_steps }
     ensures levels { length totals.new ≡ length totals.old }
@@ -37,4 +37,17 @@ pub(crate) fn add_counts(totals: &mut [u128], counts: Reader<'_>)
         level += 1;
         left -= 1;
     }
+}
+
+/// Adds counts to the totals from a level on.
+pub(crate) fn add_counts_from(totals: &mut [u128], level: u64, counts: Reader<'_>)
+    requires levels { level + length (path_of counts) ≤ length totals.old }
+    requires room { HaveRoom totals.old most_steps }
+    ensures levels { length totals.new ≡ length totals.old }
+    ensures sums { (k : ℕ) → slice_index totals.new k ≡
+        slice_index totals.old k + slice_index (replicate level 0 ++ path_of counts.entry) k }
+    ensures small { (k : ℕ) → slice_index totals.new k ≤ slice_index totals.old k + most_steps }
+{
+    let (_, below) = totals.split_at_mut(level as usize);
+    add_counts(below, counts);
 }

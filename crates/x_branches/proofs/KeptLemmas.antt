@@ -1,10 +1,10 @@
 -- Many stretches, each as a row and what stands beside it.
-use Rattle.std.proofs.Common.{◌≡◌, ℕ, zero, suc, Some, ◌<◌, List, [], ◌∷◌, ◌++◌, length, take, get_or, slice_get, refl, sym, ap, ◌∙◌, subst, arith, append_assoc}
+use Rattle.std.proofs.Common.{◌≡◌, ℕ, zero, suc, Some, ◌<◌, List, [], ◌∷◌, ◌++◌, length, replicate, take, get_or, slice_get, refl, sym, ap, ◌∙◌, subst, arith, append_assoc}
 use Rattle.std.proofs.lemmas.List.{append-nil}
 use Rattle.x_steps.specs.StateValue.{StateValue}
 use Rattle.x_codes.specs.StateCode.{path_code, path_of, path_rest, paths_code, paths_of, paths_rest, state_code, state_of, state_rest, ReadsPath, ReadsPaths, ReadsState}
 use Rattle.x_branches.specs.Stretch.{StretchValue, KeepsStretch, HeadValue, KeepsRow, KeepsRows}
-use Rattle.x_branches.specs.Stretch.{kept_value, kept_values, kept_ends, kept_visits, kept_levels, visits_of_stretch, levels_of_stretch}
+use Rattle.x_branches.specs.Stretch.{counts_of, counts_rest, kept_value, kept_values, kept_ends, kept_visits, kept_levels, visits_of_stretch, levels_of_stretch}
 
 -- as many as there are rows
 pub kept_long : (hs : List HeadValue) (rows : List (List ℕ)) → KeepsRows hs rows → (length hs ≡ length rows) × (length (kept_values hs rows) ≡ length rows)
@@ -69,22 +69,25 @@ pub record IsPacked (ns : List ℕ) (vs : List (List ℕ)) (ls : List ℕ) (s t 
   pub from : state_of (kept_ends ns) ≡ s
   pub to : state_of (state_rest (kept_ends ns)) ≡ t
 
-pub packed_is : (visits : List (List ℕ)) (levels : List ℕ) (from to : StateValue) (none one two three ns : List ℕ)
-    → ReadsPaths visits → ReadsPath levels → ReadsState from → ReadsState to → none ≡ [] → one ≡ none ++ paths_code visits
-    → two ≡ one ++ path_code levels → three ≡ two ++ state_code from → ns ≡ three ++ state_code to → IsPacked ns visits levels from to
-packed_is visits levels from to none one two three ns rv rl rf rt e0 e1 e2 e3 e4 =
+pub packed_is : (zeros : ℕ) (front counts levels : List ℕ) (visits : List (List ℕ)) (from to : StateValue) (none one two three four ns : List ℕ)
+    → levels ≡ front ++ counts → front ≡ replicate zeros 0 → ReadsPath counts → ReadsPaths visits → ReadsState from → ReadsState to
+    → none ≡ [] → one ≡ none ++ zeros ∷ [] → two ≡ one ++ path_code counts → three ≡ two ++ paths_code visits → four ≡ three ++ state_code from
+    → ns ≡ four ++ state_code to → IsPacked ns visits levels from to
+packed_is zeros front counts levels visits from to none one two three four ns l f rl rv rf rt e0 e1 e2 e3 e4 e5 =
     let ends = state_code from ++ (state_code to ++ []) in
-    let counts = path_code levels ++ ends in
-    let whole : ns ≡ paths_code visits ++ counts =
-    e4 ∙ ap (λ xs. xs ++ state_code to) (e3 ∙ ap (λ xs. xs ++ state_code from) (e2 ∙ ap (λ xs. xs ++ path_code levels) (e1 ∙ ap (λ xs. xs ++ paths_code visits) e0)))
-    ∙ append_assoc (paths_code visits ++ path_code levels) (state_code from) (state_code to)
-    ∙ append_assoc (paths_code visits) (path_code levels) (state_code from ++ state_code to)
-    ∙ ap (λ xs. paths_code visits ++ (path_code levels ++ (state_code from ++ xs))) (sym (append-nil (state_code to))) in
-    let after_visits : paths_rest ns ≡ counts = ap paths_rest whole ∙ (rv counts).1 in
-    let after_counts : kept_ends ns ≡ ends = ap path_rest after_visits ∙ (rl ends).1 in
+    let told = paths_code visits ++ ends in
+    let whole : ns ≡ zeros ∷ (path_code counts ++ told) =
+    e5 ∙ ap (λ xs. xs ++ state_code to) (e4 ∙ ap (λ xs. xs ++ state_code from) (e3 ∙ ap (λ xs. xs ++ paths_code visits)
+    (e2 ∙ ap (λ xs. xs ++ path_code counts) (e1 ∙ ap (λ xs. xs ++ zeros ∷ []) e0))))
+    ∙ append_assoc (zeros ∷ (path_code counts ++ paths_code visits)) (state_code from) (state_code to)
+    ∙ ap (λ xs. zeros ∷ xs) (append_assoc (path_code counts) (paths_code visits) (state_code from ++ state_code to))
+    ∙ ap (λ xs. zeros ∷ (path_code counts ++ (paths_code visits ++ (state_code from ++ xs)))) (sym (append-nil (state_code to))) in
+    let after_counts : counts_rest ns ≡ told = ap counts_rest whole ∙ (rl told).1 in
+    let after_visits : kept_ends ns ≡ ends = ap paths_rest after_counts ∙ (rv ends).1 in
     record {
-      visits = ap paths_of whole ∙ (rv counts).0;
-      levels = ap path_of after_visits ∙ (rl ends).0;
-      from = ap state_of after_counts ∙ (rf (state_code to ++ [])).0;
-      to = ap state_of (ap state_rest after_counts ∙ (rf (state_code to ++ [])).1) ∙ (rt []).0;
+      visits = ap paths_of after_counts ∙ (rv ends).0;
+      levels = ap counts_of whole ∙ ap (λ xs. replicate zeros 0 ++ xs) (rl told).0
+          ∙ sym (l ∙ ap (λ xs. xs ++ counts) f);
+      from = ap state_of after_visits ∙ (rf (state_code to ++ [])).0;
+      to = ap state_of (ap state_rest after_visits ∙ (rf (state_code to ++ [])).1) ∙ (rt []).0;
     }

@@ -98,7 +98,7 @@ none_counted h = let l : 0 < 0 = h refl in omega arith
 
 -- from X2 to X8 at the path 4 5 1, with one visit, and one X2 state at level 3
 abbrev row : List ℕ
-row = 1 ∷ 3 ∷ 4 ∷ 5 ∷ 1 ∷ 4 ∷ 0 ∷ 0 ∷ 0 ∷ 1 ∷ 2 ∷ 0 ∷ 0 ∷ 3 ∷ 4 ∷ 5 ∷ 1 ∷ 8 ∷ 0 ∷ 0 ∷ 3 ∷ 4 ∷ 5 ∷ 1 ∷ []
+row = 3 ∷ 1 ∷ 1 ∷ 1 ∷ 3 ∷ 4 ∷ 5 ∷ 1 ∷ 2 ∷ 0 ∷ 0 ∷ 3 ∷ 4 ∷ 5 ∷ 1 ∷ 8 ∷ 0 ∷ 0 ∷ 3 ∷ 4 ∷ 5 ∷ 1 ∷ []
 
 its_from : (kept_value small row).from ≡ at X2 (4 ∷ 5 ∷ 1 ∷ []) cursor.None
 unfolding state_of path_of path_rest paths_rest after_paths

@@ -1,15 +1,16 @@
 -- A stretch: the part of a problem's run from one state up to another, without that one (`StretchValue`, `IsStretch`), what is kept of it
 -- (`KeepsStretch`), it as a row of numbers (`kept_value`, `kept_visits`, `kept_levels`, `KeepsRow`), and many (`kept_values`, `KeepsRows`).
 --
--- Example: the step from X2 to X8 with the path 4 5 1, a visit of the small problem, is the row 1 3 4 5 1 for one visit of three choices, 4 0
--- 0 0 1 for one X2 state at level 3, and then 2 0 0 3 4 5 1 and 8 0 0 3 4 5 1. proofs/RunnerExamples.antt computes it.
-use Rattle.std.specs.Prelude.{◌≡◌, ℕ, List, [], ◌∷◌, ⊤}
+-- Example: the step from X2 to X8 with the path 4 5 1, a visit of the small problem, is the row 3 1 1 for no X2 state at three levels and then,
+-- at one level, one; 1 3 4 5 1 for one visit of three choices; and then 2 0 0 3 4 5 1 and 8 0 0 3 4 5 1. proofs/RunnerExamples.antt computes
+-- it.
+use Rattle.std.specs.Prelude.{◌≡◌, ℕ, List, [], ◌∷◌, ◌++◌, ⊤, replicate, slice_index}
 use Rattle.cover_problem.specs.Problem.{ProblemValue}
 use Rattle.x_steps.specs.StateValue.{StateValue}
 use Rattle.x_steps.specs.Steps.{Fits}
 use Rattle.x_steps.specs.Run.{ReachesIn, steps_between, visits_between}
 use Rattle.x_steps.specs.Levels.{trimmed_levels}
-use Rattle.x_codes.specs.StateCode.{path_of, path_rest, state_of, state_rest, paths_of, paths_rest}
+use Rattle.x_codes.specs.StateCode.{later, path_of, path_rest, state_of, state_rest, paths_of, paths_rest}
 
 -- a problem, and two states of its run: what lies between them is a function of these
 pub record StretchValue : Type 0 where
@@ -37,12 +38,20 @@ pub record KeepsStretch (p : ProblemValue) (s t : StateValue) (steps : ℕ) (vis
   pub visits_are : visits ≡ visits_between p s t
   pub levels_are : levels ≡ trimmed_levels p s t
 
--- ---- a stretch as a row of numbers: its visits, then how many X2 states there are at each level, its first state, and the one that it
+-- ---- a stretch as a row of numbers: how many X2 states there are at each level, then its visits, its first state, and the one that it
 -- leads to
 
--- what comes after the visits and the counts
+-- the counts at the head of a row: how many are 0 before the others, and then these as a list
+abbrev pub counts_of : List ℕ → List ℕ
+counts_of ns = replicate (slice_index ns 0) 0 ++ path_of (later ns)
+
+-- what comes after them
+abbrev pub counts_rest : List ℕ → List ℕ
+counts_rest ns = path_rest (later ns)
+
+-- what comes after the counts and the visits
 abbrev pub kept_ends : List ℕ → List ℕ
-kept_ends ns = path_rest (paths_rest ns)
+kept_ends ns = paths_rest (counts_rest ns)
 
 -- the stretch that a row tells, of a problem
 abbrev pub kept_value : ProblemValue → List ℕ → StretchValue
@@ -50,11 +59,11 @@ kept_value p ns = record { problem = p; from = state_of (kept_ends ns); to = sta
 
 -- the visits that a row tells
 abbrev pub kept_visits : List ℕ → List (List ℕ)
-kept_visits ns = paths_of ns
+kept_visits ns = paths_of (counts_rest ns)
 
 -- and the counts
 abbrev pub kept_levels : List ℕ → List ℕ
-kept_levels ns = path_of (paths_rest ns)
+kept_levels ns = counts_of ns
 
 -- a row with the steps of the stretch that it tells
 abbrev pub KeepsRow : ProblemValue → List ℕ → ℕ → Type 0

@@ -1,10 +1,11 @@
 //! Stretches in few bytes, as one keeps them who has many.
-ghost use Rattle.std.specs.Prelude.{◌≡◌, ◌↔◌, ◌++◌, ◌∷◌, [], ◌<◌, ◌≤◌, ◌-◌, IfOk, IfErr, OnOk, OnErr, IsTrue, Some, length, take, slice_get};
+ghost use Rattle.std.specs.Prelude.{◌≡◌, ◌↔◌, ◌++◌, ◌∷◌, [], ◌<◌, ◌≤◌, ◌-◌, IfOk, IfErr, OnOk, OnErr, IsTrue, Some, length, take, replicate, slice_get};
 ghost use Rattle.cover_problem.specs.Answers.{Returns, ReturnsItems};
 ghost use Rattle.x_steps.specs.StateView.{state_value};
 ghost use Rattle.x_steps.specs.Run.{steps_between};
 ghost use Rattle.x_codes.specs.StateCode.{path_of};
-ghost use Rattle.x_branches.specs.Stretch.{KeepsRow, kept_value, kept_ends, kept_levels, kept_visits, visits_of_stretch, levels_of_stretch};
+ghost use Rattle.x_branches.specs.Stretch.{KeepsRow, counts_of, counts_rest, kept_value, kept_ends, kept_levels, kept_visits};
+ghost use Rattle.x_branches.specs.Stretch.{visits_of_stretch, levels_of_stretch};
 
 use crate::stretch::Stretch;
 use cover_problem::{Lists, Problem};
@@ -37,7 +38,7 @@ impl<'p> Model for Head<'p> {
 #[derive(Drop)]
 pub struct KeptStretches<'p> {
     heads: Vec<Head<'p>>,
-    /// Of each its visits, how many X2 states there are at each level, its first state, and the one that it leads to.
+    /// Of each how many X2 states it has at each level, its visits, its first state, and the one that it leads to.
     rows: Rows,
 }
 
@@ -73,28 +74,66 @@ impl<'a, 'p> Model for KeptStretch<'a, 'p> {
         × KeepsRow s.problem.now (slice_index_or s.rows.now.rows s.place []) s.steps };
 }
 
-/// A stretch's visits, counts and states as a row.
-fn packed(stretch: &Stretch<'_>) -> Result<Row, AllocError>
-    ensures ends { IfOk result (λ row. kept_value stretch.now.problem row ≡ stretch.now) }
-    ensures visits { IfOk result (λ row. kept_visits row ≡ visits_of_stretch stretch.now) }
-    ensures levels { IfOk result (λ row. kept_levels row ≡ levels_of_stretch stretch.now) }
+/// How many zeros a list begins with.
+fn zeros_of(list: &[u32]) -> usize
+    ensures zeros { take result list.now ≡ replicate result 0 }
+    ensures within { result ≤ length list.now }
 {
-    let mut row = Row::new(*stretch.levels.allocator());
-    // The states go last: visits and counts are asked for of all stretches at once.
-    put_paths(&mut row, stretch.visits())?;
-    put_path(&mut row, stretch.levels())?;
-    put_state(&mut row, stretch.from())?;
-    put_state(&mut row, stretch.to())?;
-    Ok(row)
+    let mut zeros = 0;
+    'counting: while zeros < list.len() && list[zeros] == 0 {
+        zeros += 1;
+    }
+    zeros
 }
 
-/// What follows the counts in a row: its two states.
+/// Makes a row of a stretch's counts, visits and states. Where memory runs out, some numbers may be there.
+fn pack(row: &mut Row, stretch: &Stretch<'_>) -> Result<(), AllocError>
+    ensures ends { OnOk result (kept_value stretch.now.problem row.new ≡ stretch.now) }
+    ensures visits { OnOk result (kept_visits row.new ≡ visits_of_stretch stretch.now) }
+    ensures levels { OnOk result (kept_levels row.new ≡ levels_of_stretch stretch.now) }
+{
+    row.clear();
+    // A stretch that begins far down has no state above: those zeros would be most of its row.
+    let levels = stretch.levels();
+    let zeros = zeros_of(levels);
+    let (_, counts) = levels.split_at(zeros);
+    // What is asked for of all stretches at once goes first.
+    row.put(zeros as u64)?;
+    put_path(row, counts)?;
+    put_paths(row, stretch.visits())?;
+    put_state(row, stretch.from())?;
+    put_state(row, stretch.to())?;
+    Ok(())
+}
+
+/// Reads counts.
+fn read_counts(alloc: Global, reader: &mut Reader<'_>) -> Result<Vec<u32>, AllocError>
+    ensures counts { IfOk result (λ counts. counts.items ≡ counts_of reader.old) }
+    ensures rest { OnOk result (reader.new ≡ counts_rest reader.old) }
+{
+    let zeros = reader.number();
+    let mut counts = vec![in alloc; 0u32; zeros as usize]?;
+    let rest = read_path(alloc, reader)?;
+    counts.extend_from_slice(&rest)?;
+    Ok(counts)
+}
+
+/// What follows the counts in a row: its visits, and then its two states.
+fn behind_counts(row: Reader<'_>) -> Reader<'_>
+    ensures { result ≡ counts_rest row.entry }
+{
+    let mut reader = row;
+    let _zeros = reader.number();
+    skip_path(&mut reader);
+    reader
+}
+
+/// What follows the visits in a row: its two states.
 fn ends(row: Reader<'_>) -> Reader<'_>
     ensures { result ≡ kept_ends row.entry }
 {
-    let mut reader = row;
+    let mut reader = behind_counts(row);
     let _visited = skip_paths(&mut reader);
-    skip_path(&mut reader);
     reader
 }
 
@@ -152,13 +191,13 @@ impl<'p> KeptStretches<'p> {
     }
 
     /// Adds the row of a stretch, where there is room for its head.
-    fn add(&mut self, stretch: &Stretch<'p>) -> Result<(), AllocError>
+    fn add(&mut self, draft: &mut Row, stretch: &Stretch<'p>) -> Result<(), AllocError>
         ensures added { OnOk result (self.new ≡ self.old ++ stretch.now ∷ []) }
         ensures unchanged { OnErr result (self.new ≡ self.old) }
     {
-        let row = packed(stretch)?;
+        pack(draft, stretch)?;
         self.heads.reserve(1)?;
-        self.rows.push(&row)?;
+        self.rows.push(draft)?;
         self.heads.push_reserved(Head {
             problem: stretch.problem,
             steps: stretch.steps,
@@ -166,14 +205,15 @@ impl<'p> KeptStretches<'p> {
         Ok(())
     }
 
-    /// Adds a stretch. Where memory runs out, nothing changes and it comes back.
-    pub fn push(&mut self, stretch: Stretch<'p>) -> Result<(), Stretch<'p>>
+    /// Adds a stretch. Where memory runs out, nothing changes and it comes back. Its row is made in a draft, of any numbers: one draft for
+    /// all stretches of a search makes them fast, since a row mostly has the long lists of the one before.
+    pub fn push(&mut self, draft: &mut Row, stretch: Stretch<'p>) -> Result<(), Stretch<'p>>
         ensures added { OnOk result (self.new ≡ self.old ++ stretch.entry ∷ []) }
         ensures unchanged { OnErr result (self.new ≡ self.old) }
         ensures given_back { IfErr result (λ s. s ≡ stretch.entry) }
     {
         // Only lent up to here, so it can come back.
-        match self.add(&stretch) {
+        match self.add(draft, &stretch) {
             Ok(()) => Ok(()),
             Err(_) => Err(stretch),
         }
@@ -229,10 +269,10 @@ impl<'a, 'p> KeptStretch<'a, 'p> {
         ensures { IfOk result (λ stretch. stretch ≡ self.now) }
     {
         let mut reader = self.rows.row(self.place);
-        // In the order in which `packed` put them.
+        // In the order in which `pack` put them.
+        let levels = read_counts(alloc, &mut reader)?;
         let mut visits = Lists::new(alloc);
         read_paths(alloc, &mut reader, &mut visits)?;
-        let levels = read_path(alloc, &mut reader)?;
         let from = read_state(alloc, &mut reader)?;
         let to = read_state(alloc, &mut reader)?;
         Ok(Stretch {
@@ -279,24 +319,24 @@ impl<'a, 'p> KeptStretch<'a, 'p> {
     pub fn visited(&self) -> u64
         ensures { result ≡ length (visits_of_stretch self.now) }
     {
-        skip_paths(&mut self.rows.row(self.place))
+        skip_paths(&mut behind_counts(self.rows.row(self.place)))
     }
 
     /// Adds the paths that it visits; where memory runs out, some may be there.
     pub fn add_visits(&self, alloc: Global, visits: &mut Lists) -> Result<(), AllocError>
         ensures { OnOk result (visits.new ≡ visits.old ++ visits_of_stretch self.now) }
     {
-        read_paths(alloc, &mut self.rows.row(self.place), visits)
+        read_paths(alloc, &mut behind_counts(self.rows.row(self.place)), visits)
     }
 
-    /// How many X2 states it has at each level, up to the last level that has one, to be read as a list of choices is: first how many
-    /// levels there are.
-    pub fn levels(&self) -> Reader<'a>
-        ensures { path_of result ≡ levels_of_stretch self.now }
+    /// At how many levels, from 0 on, it has no X2 state; and then how many it has at each, up to the last level that has one, to be
+    /// read as a list of choices is: first how many levels there are.
+    pub fn levels(&self) -> (u64, Reader<'a>)
+        ensures { replicate result.0 0 ++ path_of result.1 ≡ levels_of_stretch self.now }
     {
         let mut reader = self.rows.row(self.place);
-        let _visited = skip_paths(&mut reader);
-        reader
+        let zeros = reader.number();
+        (zeros, reader)
     }
 
     /// Whether it is the same stretch of the same problem; false tells nothing.

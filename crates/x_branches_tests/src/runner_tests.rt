@@ -196,11 +196,12 @@ fn is_kept_copied(kept: &KeptStretches<'_>, stretch: &Stretch<'_>, parts: Parts)
 
 /// Keeps so many copies of a stretch.
 fn keep<'p>(kept: &mut KeptStretches<'p>, stretch: &Stretch<'p>, count: usize) -> bool {
+    let mut draft = packed_rows::Row::new(*stretch.from().path.allocator());
     for _ in 0..count {
         let Ok(copy) = stretch.copy() else {
             return false;
         };
-        if kept.push(copy).is_err() {
+        if kept.push(&mut draft, copy).is_err() {
             return false;
         }
     }

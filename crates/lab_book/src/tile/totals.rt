@@ -5,7 +5,7 @@ ghost use Rattle.x_branches.specs.Stretch.{StretchValue};
 ghost use Rattle.lab_book.specs.Posted.{stretch_visits, stretch_steps, stretch_level, HaveRoom};
 
 use crate::tile::Tile;
-use crate::totals::add_counts;
+use crate::totals::add_counts_from;
 
 impl<'p> Tile<'p> {
     /// How many paths its stretches visit.
@@ -47,7 +47,9 @@ impl<'p> Tile<'p> {
     {
         let stretches = self.stretches();
         for place in 0..stretches.len() {
-            add_counts(totals, stretches.stretch(place).levels());
+            // No total above the level where a stretch begins is touched.
+            let (level, counts) = stretches.stretch(place).levels();
+            add_counts_from(totals, level, counts);
         }
     }
 }

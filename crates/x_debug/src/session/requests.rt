@@ -1,6 +1,7 @@
 //! What a session asks of its worker, and of the tiles of its book, by one act.
-ghost use Rattle.std.specs.Prelude.{◌≡◌, ◌<◌, length, IfOk, option_map};
+ghost use Rattle.std.specs.Prelude.{◌≡◌, ◌<◌, length, IfOk, IfSome, option_map};
 ghost use Rattle.lab_book.specs.Tiling.{tile_at};
+ghost use Rattle.debug_views.specs.Tiles.{given_cut, place_at};
 ghost use Rattle.debug_acts.specs.Acts.{enter_act};
 ghost use Rattle.x_debug.specs.Commands.{asks, split_deed, enter_by, hold_by, put_back_by, TellsDeed, DoesDeed, FailsDeed};
 
@@ -85,6 +86,18 @@ impl<'p, T: Table> Session<'p, T> {
         self.ask(alloc, &act, &Told::Parted(before), text)
     }
 
+    /// The place of the tile that begins at a cut and isn't closed.
+    fn seek(&mut self, lo: Option<&[u32]>) -> Option<usize>
+        ensures place { result ≡ place_at (given_cut lo.entry) self.old.book.tiles }
+        ensures within { IfSome result (λ i. i < length self.old.book.tiles) }
+        ensures unchanged { self.new ≡ self.old }
+    {
+        let place = place_at(&self.book, lo)?;
+        // The act that follows names the tile by its id.
+        self.book.keep_place(place);
+        Some(place)
+    }
+
     /// `hold`.
     pub(super) fn obey_hold(
         &mut self,
@@ -96,7 +109,7 @@ impl<'p, T: Table> Session<'p, T> {
         ensures session { DoesDeed result self.old self.new (hold_by self.old lo.entry) }
         ensures left { FailsDeed result self.old self.new (hold_by self.old lo.entry) }
     {
-        let Some(place) = place_at(self.book(), lo) else {
+        let Some(place) = self.seek(lo) else {
             return write_book_fault(text, &BookFault::UnknownBranch);
         };
         // The act moves no tile: the line is of the one that stands there after it.
@@ -116,7 +129,7 @@ impl<'p, T: Table> Session<'p, T> {
         ensures session { DoesDeed result self.old self.new (put_back_by self.old lo.entry state.now) }
         ensures left { FailsDeed result self.old self.new (put_back_by self.old lo.entry state.now) }
     {
-        let Some(place) = place_at(self.book(), lo) else {
+        let Some(place) = self.seek(lo) else {
             return write_book_fault(text, &BookFault::UnknownBranch);
         };
         let id = id_at(self.book(), place);
@@ -139,7 +152,7 @@ impl<'p, T: Table> Session<'p, T> {
         if self.is_open() {
             return write_debug_fault(text, DebugFault::AlreadyOpen);
         }
-        let Some(place) = place_at(self.book(), lo) else {
+        let Some(place) = self.seek(lo) else {
             return write_book_fault(text, &BookFault::UnknownBranch);
         };
         let act = enter_act(self.book(), place);

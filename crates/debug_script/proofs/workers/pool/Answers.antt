@@ -1,9 +1,14 @@
-use Rattle.std.proofs.Common.{◌++◌, ◌∙◌, List, ℕ, ap, sym, subst}
+use Rattle.std.proofs.Common.{◌≡◌, ◌++◌, ◌∙◌, List, ℕ, Result, Ok, Err, IfErr, ap, sym, subst}
+use Rattle.std.specs.Prelude.{IsErrAnd}
 use Rattle.lab_book.specs.Book.{BookValue}
 use Rattle.lab_book_laws.specs.Searched.{IsSearched}
 use Rattle.debug_laws.specs.AlikeSessions.{AreSoundAlike}
 use Rattle.x_debug.specs.Session.{SessionValue}
+use Rattle.lab_pool.specs.declared.fault.PoolFault.{PoolFault}
+use Rattle.debug_script.specs.declared.fault.RepliesFault.{RepliesFault}
+use Rattle.debug_script.specs.declared.fault.RepliesFault.TheVariants.{OutOfMemory}
 use Rattle.debug_script.specs.PoolAnswer.{none_held, answer_pool}
+use Rattle.debug_script.specs.Refusals.{IsWantOr}
 use Rattle.debug_script.proofs.PoolLemmas.{some_leased, no_leased, none_open, refused_alike, searched_alike, searched_text}
 use Rattle.debug_script.proofs.workers.pool.Goals as goal
 
@@ -38,3 +43,11 @@ returns-clause-session g c = λ f k.
     (searched_alike c.args.session f k c.in_ok-book.book none
     (subst (λ (b : BookValue). IsSearched b c.in_ok-book.book) c.in-Ok.ensures.book c.in_ok-book.ensures.searched)
     c.in_ok-book.ensures.tiling).sessions
+
+-- where memory ran out
+wanting : {A : Type 0} (May : PoolFault → Type 0) (r : Result A RepliesFault) → IsErrAnd r (λ f. f ≡ OutOfMemory) → IfErr r (IsWantOr May)
+wanting May (Ok a) h = tt
+wanting May (Err f) h = rw h tt
+
+pub returns-in_err-append-clause-why : goal.returns-in_err-append-clause-why
+returns-in_err-append-clause-why g c = wanting _ c.from_residual-in_err-append.result c.from_residual-in_err-append.ensures.1

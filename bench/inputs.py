@@ -8,12 +8,15 @@ A text has a name: that of a file of examples/covers or examples/puzzles, or one
     partitions-N      partitions of a set of N: each set of its members is an option, so lists are as long as they can be
     latin-N           latin squares of order N
     queens-N          N queens on a board of N x N, whose diagonals may be covered
+    options-N         N options of the one item: a level as wide as the run
+    deep-N            N levels: N - 31 items with one option each, and dominoes in 8 x 8 without two corners, of which none packs
     domino-AxB        dominoes without names in A x B
     sudoku-6          the 39,168 sudokus of 6 x 6, with boxes of 2 x 3, that have 1 to 6 in the first row
     cube-4            eleven pentominoes (no I), a solid one and a square of four, in 4 x 4 x 4
     fives-5x5x5       25 of the pentomino Y, all named, in 5 x 5 x 5
     bricks-6x6x6      36 blocks of 1 x 2 x 3, all named, in 6 x 6 x 6
     two-16x16x16      two pieces of three in 16 x 16 x 16, where each cell may stay empty
+    dominoes-16x16x8  two dominoes, told apart, in 16 x 16 x 8, where each cell may stay empty
 
 Equal pieces in three forms: NAME-named, all told apart; NAME-copies, equal ones in lines `copies`; and NAME-any, the largest group a piece
 that is used any number of times. The columns tell the X2 states of each form, and the packings where equal pieces count once:
@@ -107,13 +110,29 @@ def queens(n):
     return cover_text(items, [["r%d" % r, "f%d" % f, "a%d" % (r + f), "b%d" % (n - 1 - r + f)] for r in range(n) for f in range(n)], maybe)
 
 
+def dominoes(cells):
+    """The items of cells, and an option for each two side by side."""
+    name = "c%d_%d"
+    options = [[name % (x, y), name % (x + a, y + b)] for x, y in cells for a, b in ((1, 0), (0, 1)) if (x + a, y + b) in cells]
+    return [name % cell for cell in cells], options
+
+
 def domino(size):
     """Each two cells side by side are an option."""
     width, height = map(int, size.split("x"))
-    cells = [(x, y) for y in range(height) for x in range(width)]
-    name = "c%d_%d"
-    options = [[name % (x, y), name % (x + a, y + b)] for x, y in cells for a, b in ((1, 0), (0, 1)) if x + a < width and y + b < height]
-    return cover_text([name % cell for cell in cells], options)
+    return cover_text(*dominoes({(x, y): None for y in range(height) for x in range(width)}))
+
+
+def options_of_one(n):
+    """Each option is a packing."""
+    return cover_text(["a"], [["a"]] * n)
+
+
+def deep(n):
+    """What has one option is chosen first; the two corners have one colour, so no 31 dominoes pack the rest."""
+    chain = ["d%d" % level for level in range(n - 31)]
+    items, options = dominoes({(x, y): None for y in range(8) for x in range(8) if (x, y) not in ((0, 0), (7, 7))})
+    return cover_text(chain + items, [[item] for item in chain] + options)
 
 
 def sudoku():
@@ -189,7 +208,10 @@ def equal_text(groups, region, form):
     return "\n".join(lines) + "\n" + region
 
 
-NUMBERED = {"langford": langford, "permutations": permutations, "partitions": partitions, "latin": latin, "queens": queens}
+NUMBERED = {"langford": langford, "permutations": permutations, "partitions": partitions, "latin": latin, "queens": queens,
+            "options": options_of_one, "deep": deep}
+# Puzzles that aren't in examples/.
+PUZZLES = {"dominoes-16x16x8": lambda: named(2, DOMINO) + holes(16, 16, 8)}
 MADE = {
     "sudoku-6": sudoku,
     "cube-4": lambda: compiled(PENTOMINOES + SOLID + SQUARE + "box 4 4 4\n"),
@@ -213,6 +235,8 @@ def text_of(name):
             return text if path == cover else compiled(text)
     if name in MADE:
         return MADE[name]()
+    if name in PUZZLES:
+        return compiled(PUZZLES[name]())
     base, _, form = name.rpartition("-")
     if base in EQUAL and form in ("named", "copies", "any"):
         return compiled(equal_text(*EQUAL[base], form))
@@ -246,3 +270,12 @@ class Shape:
     def mean(self):
         """How many options the mean list of an item has."""
         return self.nodes / self.items
+
+
+def puzzle_of(name):
+    """The puzzle text of a name, or None where it is a cover text."""
+    path = os.path.join(TOP, "examples", "puzzles", name + ".puzzle")
+    if os.path.isfile(path):
+        with open(path, encoding="latin-1") as file:
+            return file.read()
+    return PUZZLES[name]() if name in PUZZLES else None

@@ -42,10 +42,10 @@ def write(folder, name, text):
 
 
 class Run:
-    """What one round of a program took: seconds of the processors in user mode, and seconds by the clock."""
+    """What one round of a program took: seconds of the processors in user mode, with those of the system, and seconds by the clock."""
 
-    def __init__(self, user, clock):
-        self.user, self.clock = user, clock
+    def __init__(self, user, used, clock):
+        self.user, self.used, self.clock = user, used, clock
 
 
 def run(words, source, sink):
@@ -59,12 +59,12 @@ def run(words, source, sink):
     if child.returncode:
         with open(sink + ".err", encoding="latin-1") as told:
             stop("`%s` ended with status %d: %s" % (" ".join(words), child.returncode, told.read().strip()))
-    return Run(used.ru_utime, clock)
+    return Run(used.ru_utime, used.ru_utime + used.ru_stime, clock)
 
 
 def run_often(words, source, sink, times):
     runs = [run(words, source, sink) for _ in range(times)]
-    return Run(sum(one.user for one in runs) / times, sum(one.clock for one in runs) / times)
+    return Run(*(sum(getattr(one, what) for one in runs) / times for what in ("user", "used", "clock")))
 
 
 def take_rounds(jobs, folder, rounds):

@@ -1,21 +1,23 @@
 //! The bytes of a row are added to a block: what stands there already is told by its place.
-ghost use Rattle.std.specs.Prelude.{◌≡◌, ◌++◌, [], ◌<◌, ◌≤◌, ◌+◌, ◌*◌, length, vec_len, vec_capacity};
+ghost use Rattle.std.specs.Prelude.{◌≡◌, ◌++◌, [], ◌<◌, ◌≤◌, ◌+◌, ◌*◌, IsTrue, length, take, vec_len, vec_capacity};
 ghost use Rattle.packed_rows.specs.Pieces.{row_bytes, ArePlaces, draft_bytes, Grows, HaveCommon, IsFound, place_of};
 
-/// Where bytes begin in a block with which those of later rows may agree: the last eight long ones that agreed with none.
+use std::simd::Simd;
+
+/// How many bytes are compared at once.
+const STEP: usize = 64;
+
+/// Where bytes begin in a block with which those of later rows may agree: the last eight long ones that agreed with none, the newest
+/// first.
 #[derive(Drop)]
 pub(crate) struct Bases {
     starts: [usize; 8],
-    next: usize,
 }
 
 impl Bases {
     /// None but the block's first byte.
     pub fn new() -> Bases {
-        Bases {
-            starts: [0; 8],
-            next: 0,
-        }
+        Bases { starts: [0; 8] }
     }
 
     /// Bytes begin here, so many.
@@ -23,30 +25,41 @@ impl Bases {
         if size < LONG {
             return;
         }
-        let next = self.next % 8;
-        self.starts[next] = start;
-        self.next = next + 1;
+        self.starts.rotate_right(1);
+        self.starts[0] = start;
     }
 }
 
 /// How many bytes at least a piece has that is shared: its place takes sixteen, and what stands before it another sixteen.
 pub(crate) const LONG: usize = 64;
 
-/// How many bytes two lists have in common, in steps of so many.
-fn common_steps(one: &[u8], other: &[u8], size: usize) -> usize
-    requires { 0 < size }
+/// Whether two lists begin with the same 64 bytes; false tells nothing.
+fn same_step(one: &[u8], other: &[u8]) -> bool
+    requires long { 64 ≤ length one.now }
+    requires other_long { 64 ≤ length other.now }
+    ensures { IsTrue result → take 64 one.now ≡ take 64 other.now }
+{
+    // One mask for all of them: no branch stands between.
+    Simd::<u8, 64>::from_slice(one)
+        .simd_ne(Simd::from_slice(other))
+        .to_bitmask()
+        == 0
+}
+
+/// How many bytes two lists have in common, in whole steps.
+fn common_steps(one: &[u8], other: &[u8]) -> usize
     ensures { HaveCommon result one.now other.now }
 {
     let mut done = 0;
     let mut left = one;
     let mut against = other;
-    'comparing: while left.len() >= size && against.len() >= size {
-        let (step, rest) = left.split_at(size);
-        let (other_step, other_rest) = against.split_at(size);
-        if step != other_step {
+    'comparing: while left.len() >= STEP && against.len() >= STEP {
+        if !same_step(left, against) {
             return done;
         }
-        done += size;
+        let (_, rest) = left.split_at(STEP);
+        let (_, other_rest) = against.split_at(STEP);
+        done += STEP;
         left = rest;
         against = other_rest;
     }
@@ -67,26 +80,15 @@ fn common_bytes(one: &[u8], other: &[u8]) -> usize
     done
 }
 
-/// How many bytes two lists have in common, of which there are few.
-fn common_near(one: &[u8], other: &[u8]) -> usize
-    ensures { HaveCommon result one.now other.now }
-{
-    // Those of the step in which they part are compared one by one.
-    let done = common_steps(one, other, 64);
-    let (_, left) = one.split_at(done);
-    let (_, against) = other.split_at(done);
-    done + common_bytes(left, against)
-}
-
 /// How many bytes two lists have in common, from the first on.
 fn common(one: &[u8], other: &[u8]) -> usize
     ensures { HaveCommon result one.now other.now }
 {
-    // To compare a step costs much beside what each of its bytes does, so the first steps are large.
-    let done = common_steps(one, other, 512);
+    // Those of the step in which they part are compared one by one.
+    let done = common_steps(one, other);
     let (_, left) = one.split_at(done);
     let (_, against) = other.split_at(done);
-    done + common_near(left, against)
+    done + common_bytes(left, against)
 }
 
 /// The longer of what was found and what is found from this place on.
@@ -112,13 +114,18 @@ fn find(block: &[u8], starts: &[usize], list: &[u8]) -> (usize, usize)
     let mut found = (0, 0);
     'finding: for start in starts {
         found = longer(block, list, *start, found);
+        // Good enough: a look at the others would cost as much each.
+        if is_shared(found.1, list.len()) {
+            return found;
+        }
     }
     found
 }
 
-/// Whether so many bytes of a list, which stand in the block, are told by their place: some, and most of it.
+/// Whether so many bytes of a list, which stand in the block, are told by their place: some, and nearly all of it. Else the list stands
+/// there whole, where later ones find it: what is left would be put again with each of them.
 fn is_shared(size: usize, list: usize) -> bool {
-    size >= LONG && size >= list - list / 8
+    size >= LONG && size.saturating_add(4 * LONG) >= list
 }
 
 /// Adds bytes for which there is room.

@@ -2,10 +2,10 @@
 ghost use Rattle.std.specs.Prelude.{◌≡◌, ◌++◌, [], ◌≤◌, ◌*◌, length, take, OnOk, OnErr, IfOk};
 ghost use Rattle.std.specs.List.{flat_map};
 ghost use Rattle.packed_rows.specs.Numbers.{bytes_of};
-ghost use Rattle.packed_rows.specs.Pieces.{HaveCommon};
 
 use crate::row::put_words;
 use crate::rows::start_of;
+use prefixes::steps_alike;
 use std::alloc::{AllocError, Global};
 use std::marker::Model;
 
@@ -30,26 +30,6 @@ impl Model for Known {
     ghost view = { λ k. k.numbers.items };
 
     ghost invariant = { λ k. IsKnown k.numbers.items k.bytes.items k.ends.items };
-}
-
-/// How many steps of two lists are alike, from the first on.
-fn steps_alike(one: &[u32], other: &[u32]) -> usize
-    ensures { HaveCommon (64 * result) one.now other.now }
-{
-    let mut steps = 0;
-    let mut left = one;
-    let mut against = other;
-    'comparing: while left.len() >= STEP && against.len() >= STEP {
-        let (step, rest) = left.split_at(STEP);
-        let (other_step, other_rest) = against.split_at(STEP);
-        if step != other_step {
-            return steps;
-        }
-        steps += 1;
-        left = rest;
-        against = other_rest;
-    }
-    steps
 }
 
 impl Known {

@@ -9,8 +9,8 @@ use Rattle.x_steps.specs.declared.state.Cursor.TheVariants as cursor
 use Rattle.x_steps.specs.declared.state.Cursor.TheVariants.{At}
 use Rattle.x_steps.specs.StateValue.{StateValue, at, start, done}
 use Rattle.x_steps.specs.Steps.{Fits, next}
-use Rattle.x_steps.specs.Run.{after, ReachesIn, steps_between, visits_between}
-use Rattle.x_steps.specs.Levels.{without_last_zeros}
+use Rattle.x_steps.specs.Run.{after, ReachesIn, steps_between, visits_between, levels}
+use Rattle.x_steps.specs.Levels.{without_last_zeros, trimmed_levels}
 use Rattle.x_steps.specs.Rank.{rank}
 use Rattle.x_steps.proofs.RunLemmas.{steps_between_is}
 use Rattle.x_steps.proofs.StretchLemmas.{steps_between_none}
@@ -30,6 +30,7 @@ use Rattle.lab_book.specs.Book.{BookValue, new_book, outcome, book_step, split, 
 use Rattle.lab_book.specs.Calls.{Made, next_entry, is_current}
 use Rattle.lab_book.specs.Posted.{posted_count, posted_visits, posted_steps, posted_levels}
 use Rattle.lab_book.specs.Index.{AreLeast, WaitFrom}
+use Rattle.lab_book.specs.Totals.{of_visits, of_steps, of_level, measured_of}
 
 -- ---- specs/Tile.antt
 
@@ -178,6 +179,19 @@ its_visits = rw steps_there refl
 its_levels : posted_levels small at_visit ≡ 0 ∷ 0 ∷ 0 ∷ 1 ∷ []
 unfolding without_last_zeros next
 its_levels = rw steps_there refl
+
+-- ---- specs/Totals.antt
+
+one_visited : measured_of of_visits at_visit ≡ 1
+unfolding visits_between next covered_by taken choice active remaining
+one_visited = rw steps_there refl
+
+one_taken : measured_of of_steps at_visit ≡ 1
+one_taken = rw steps_there refl
+
+one_at_level_three : measured_of (of_level 3) at_visit ≡ 1
+unfolding trimmed_levels levels without_last_zeros next
+one_at_level_three = rw steps_there refl
 
 -- ---- specs/Tiling.antt
 

@@ -10,7 +10,7 @@ pub mod IndexLemmas
 pub mod SplitLemmas
 pub mod CountLemmas
 pub mod SumLemmas
-pub mod VisitedLemmas
+pub mod TotalsLemmas
 pub mod RiseLemmas
 pub mod ScribeLemmas
 pub mod PlaceLemmas

@@ -89,16 +89,16 @@ pub record AreAdded (old counts new : List ℕ) : Type 0 where
   pub sums : (level : ℕ) → get_or new level 0 ≡ get_or old level 0 + get_or counts level 0
   pub small : (level : ℕ) → get_or new level 0 ≤ get_or old level 0 + 4294967295
 
+length-take-most : (i : ℕ) (xs : List ℕ) → length (take i xs) ≤ i
+length-take-most zero xs = omega arith
+length-take-most (suc i) [] = omega arith
+length-take-most (suc i) (x ∷ xs) = let l = length-take-most i xs in omega arith
+
 -- the total at a level is the old one until its count is added
 added_here : (old counts new : List ℕ) (i : ℕ) → AreAdded old (take i counts) new → get_or new i 0 ≡ get_or old i 0
 added_here old counts new i a =
     let s = a.sums i in
     let e : get_or (take i counts) i 0 ≡ 0 = get_or_past (take i counts) i 0 (let l = length-take-most i counts in l) in omega arith
-  where
-    length-take-most : (i : ℕ) (xs : List ℕ) → length (take i xs) ≤ i
-    length-take-most zero xs = omega arith
-    length-take-most (suc i) [] = omega arith
-    length-take-most (suc i) (x ∷ xs) = let l = length-take-most i xs in omega arith
 
 -- past the numbers so far and at them
 taken_before : (xs : List ℕ) (i k : ℕ) → (k ≡ i → ⊥) → i < length xs → get_or (take (i + 1) xs) k 0 ≡ get_or (take i xs) k 0
@@ -232,16 +232,20 @@ level_within ns old new level left n row rest a l e f =
     let r = (read_at (told ns) level n _ (cut_next (get_or ns 0 0) (later ns) level n rest (omega arith) next)).0 in
     let w = a.added.long in omega arith
 
-pub all_read : (ns old new : List ℕ) (level left : ℕ) (row : List ℕ) → AreRead ns old new level left row → (left ≡ 0) ⊎ (row ≡ [])
-    → AreAdded old (path_of ns) new
+-- where none is left, all are read
+all_told : (ns : List ℕ) (level left : ℕ) (row : List ℕ) → row ≡ drop level (later ns) → left + level ≡ get_or ns 0 0 → (left ≡ 0) ⊎ (row ≡ [])
+    → take level (map choice_of (told ns)) ≡ path_of ns
 unfolding told
-all_read ns old new level left row a d =
-    subst (λ (xs : List ℕ). AreAdded old xs new) (read_whole (told ns) level (end d) ∙ sym (told_is ns)) a.added
+all_told ns level left row r s d = read_whole (told ns) level (end d) ∙ sym (told_is ns)
   where
     end : (left ≡ 0) ⊎ (row ≡ []) → drop level (told ns) ≡ []
-    end (inl z) = let s = a.left_is in let k : level ≡ get_or ns 0 0 = omega arith in
-        ap (λ i. drop i (told ns)) k ∙ cut_all (get_or ns 0 0) (later ns)
-    end (inr z) = cut_none (get_or ns 0 0) (later ns) level (sym a.rest_is ∙ z)
+    end (inl z) = let k : level ≡ get_or ns 0 0 = omega arith in ap (λ i. drop i (told ns)) k ∙ cut_all (get_or ns 0 0) (later ns)
+    end (inr z) = cut_none (get_or ns 0 0) (later ns) level (sym r ∙ z)
+
+pub all_read : (ns old new : List ℕ) (level left : ℕ) (row : List ℕ) → AreRead ns old new level left row → (left ≡ 0) ⊎ (row ≡ [])
+    → AreAdded old (path_of ns) new
+all_read ns old new level left row a d =
+    subst (λ (xs : List ℕ). AreAdded old xs new) (all_told ns level left row a.rest_is a.left_is d) a.added
 
 zero_at : (n k : ℕ) → get_or (replicate {A = ℕ} n 0) k 0 ≡ 0
 zero_at zero k = refl
@@ -262,77 +266,65 @@ count_at p s t counts level e l =
     with_zeros (x ∷ xs) n zero = refl
     with_zeros (x ∷ xs) n (suc k) = with_zeros xs n k
 
--- the totals with those of so many stretches
-pub record AreSummed (xs : List StretchValue) (old new : List ℕ) : Type 0 where
+-- ---- counts are taken away
+
+-- what is taken of the counts that a list tells, and what is left of them
+pub record AreTaken (ns : List ℕ) (old new : List ℕ) (level left : ℕ) (rest : List ℕ) : Type 0 where
   pub long : length new ≡ length old
-  pub sums : (level : ℕ) → level < length old → get_or new level 0 ≡ get_or old level 0 + stretch_level xs level
-  pub small : (level : ℕ) → level < length old → get_or new level 0 ≤ get_or old level 0 + 4294967295 * length xs
+  pub sums : (k : ℕ) → get_or new k 0 + get_or (take level (map choice_of (told ns))) k 0 ≡ get_or old k 0
+  pub rest_is : rest ≡ drop level (later ns)
+  pub left_is : left + level ≡ get_or ns 0 0
 
-module _ (xs : List StretchValue) (i : ℕ) (x : StretchValue) (old mid new counts : List ℕ) (s : AreSummed (take i xs) old mid)
-    (l : i < length xs) (e : x ≡ get_or xs i x) (c : counts ≡ trimmed_levels x.problem x.from x.to)
-    (n : length x.problem.names + 1 ≡ length old) where
-  pub summed_fit : length counts ≤ length mid
-  summed_fit = let f = counts_fit x.problem x.from x.to counts c in let m = s.long in omega arith
+module _ (ns old new : List ℕ) (level left n : ℕ) (row rest : List ℕ) (a : AreTaken ns old new level left row) (some : 0 < left) (e : row ≡ n ∷ rest)
+    (fit : length (path_of ns) ≤ length old) where
+  next_is : drop level (told ns) ≡ n ∷ take (get_or ns 0 0 - (level + 1)) rest
+  unfolding told
+  next_is = let s = a.left_is in cut_next (get_or ns 0 0) (later ns) level n rest (omega arith) (sym a.rest_is ∙ e)
 
-  pub summed_more : length new ≡ length mid → ((level : ℕ) → get_or new level 0 ≡ get_or mid level 0 + get_or counts level 0)
-      → ((level : ℕ) → get_or new level 0 ≤ get_or mid level 0 + 4294967295) → AreSummed (take (i + 1) xs) old new
-  summed_more a b d = record {
-    long = a ∙ s.long;
-    sums = λ level k.
-        let f = b level in
-        let g = s.sums level k in
-        let h = count_at x.problem x.from x.to counts level c (omega arith) in
-        let m = sum_by_more (λ (x : StretchValue). level_count (states_between x.problem x.from x.to) level) xs i x l in
-        let o = ap (λ (y : StretchValue). level_count (states_between y.problem y.from y.to) level) e in omega arith;
-    small = λ level k.
-        let f = d level in
-        let g = s.small level k in
-        let t = length-take-le i xs (omega arith) in
-        let u = length-take-le (i + 1) xs (omega arith) in omega arith;
+  -- there is a total for the next count
+  pub taken_within : level < length new
+  taken_within =
+      let m = ap length (told_is ns) in let k = length-map (told ns) choice_of in
+      let r = (read_at (told ns) level n _ next_is).0 in let w = a.long in omega arith
+
+  -- and it has that much
+  pub taken_some : ((k : ℕ) → get_or (path_of ns) k 0 ≤ get_or old k 0) → choice_of n ≤ get_or new level 0
+  taken_some h =
+      let r = read_at (told ns) level n _ next_is in
+      let c = h level in let d = ap (λ xs. get_or xs level 0) (told_is ns) in
+      let s = a.sums level in let z = none_yet in let q = r.1 in omega arith
+    where
+      none_yet : get_or (take level (map choice_of (told ns))) level 0 ≡ 0
+      none_yet = get_or_past (take level (map choice_of (told ns))) level 0 (length-take-most level (map choice_of (told ns)))
+
+  pub take_next : ((k : ℕ) → get_or (path_of ns) k 0 ≤ get_or old k 0)
+      → AreTaken ns old (set new level (get_or new level 0 - choice_of n)) (level + 1) (left - 1) rest
+  take_next h = record {
+    long = length-set new level (get_or new level 0 - choice_of n) ∙ a.long;
+    sums = λ k. sum_at k (eqb_tells k level);
+    rest_is = read_on (later ns) level n rest (sym a.rest_is ∙ e);
+    left_is = let s = a.left_is in omega arith;
   }
+    where
+      here : level < length (map choice_of (told ns))
+      here = let k = length-map (told ns) choice_of in let r = (read_at (told ns) level n _ next_is).0 in omega arith
 
--- the steps of so many stretches
-pub record AreSteps (xs : List StretchValue) (steps : ℕ) : Type 0 where
-  pub sum : steps ≡ stretch_steps xs
-  pub small : steps ≤ 4294967295 * length xs
+      sum_at : (k : ℕ) → (((k == level) ≡ true) × (k ≡ level)) ⊎ (((k == level) ≡ false) × (k ≡ level → ⊥))
+          → get_or (set new level (get_or new level 0 - choice_of n)) k 0 + get_or (take (level + 1) (map choice_of (told ns))) k 0 ≡ get_or old k 0
+      sum_at k (inl f) =
+          let g = get_or-set_same new level (get_or new level 0 - choice_of n) 0 taken_within in
+          let c = taken_at (map choice_of (told ns)) level here in let q = (read_at (told ns) level n _ next_is).1 in
+          let s = a.sums level in let w = taken_some h in
+          let z = get_or_past (take level (map choice_of (told ns))) level 0 (length-take-most level (map choice_of (told ns))) in
+          rw f.1 (omega arith)
+      sum_at k (inr f) =
+          rw (get_or-set_other new level k (get_or new level 0 - choice_of n) 0 f.1, taken_before (map choice_of (told ns)) level k f.1 here)
+          (a.sums k)
 
--- those of one stretch more
-pub steps_next : (xs : List StretchValue) (i : ℕ) (x : StretchValue) (steps told : ℕ) → AreSteps (take i xs) steps → slice_get xs i ≡ Some x
-    → told ≡ steps_between x.problem x.from x.to → told ≤ 4294967295 → AreSteps (take (i + 1) xs) (steps + told)
-steps_next xs i x steps told a e t b =
-    let p = at_place xs i x e in let l = p.0 in
-    let m = sum_by_more (λ (x : StretchValue). steps_between x.problem x.from x.to) xs i x l in
-    let o = ap (λ (y : StretchValue). steps_between y.problem y.from y.to) p.1 in
-    let u = length-take-le i xs (omega arith) in let v = length-take-le (i + 1) xs (omega arith) in
-    let s = a.sum in let r = a.small in
-    record { sum = omega arith; small = omega arith }
-
--- and of tiles
-pub record AreStepsOf (ts : List TileValue) (steps : ℕ) : Type 0 where
-  pub sum : steps ≡ posted_steps ts
-  pub small : steps ≤ 4294967295 * posted_count ts
-
--- the totals at each of so many levels of tiles
-pub record AreLevelsOf (ts : List TileValue) (n : ℕ) (totals : List ℕ) : Type 0 where
-  pub long : length totals ≡ n
-  pub sums : (level : ℕ) → level < n → get_or totals level 0 ≡ posted_level ts level
-  pub small : (level : ℕ) → level < n → get_or totals level 0 ≤ 4294967295 * posted_count ts
-
-pub levels_all : (p : ProblemValue) (ts : List TileValue) (totals : List ℕ) → AreLevelsOf ts (length p.names + 1) totals
-    → without_last_zeros totals ≡ posted_levels p ts
-levels_all p ts totals s =
-    let n = length-map (numbers (length p.names + 1) 0) (posted_level ts) in
-    let m = length-numbers (length p.names + 1) 0 in
-    let o = s.long in
-    ap without_last_zeros (same_at totals (map (posted_level ts) (numbers (length p.names + 1) 0)) (omega arith)
-    (λ level l. s.sums level (omega arith) ∙ sym (counts_at (posted_level ts) (length p.names + 1) level 0 (omega arith))))
-  where
-    same_at : (xs ys : List ℕ) → length xs ≡ length ys → ((k : ℕ) → k < length xs → get_or xs k 0 ≡ get_or ys k 0) → xs ≡ ys
-    same_at [] [] e h = refl
-    same_at [] (y ∷ ys) e h = absurd (omega arith)
-    same_at (x ∷ xs) [] e h = absurd (omega arith)
-    same_at (x ∷ xs) (y ∷ ys) e h = ap₂ (λ (a : ℕ) (rest : List ℕ). a ∷ rest) (h 0 (omega arith))
-        (same_at xs ys (omega arith) (λ k l. h (suc k) (omega arith)))
+pub all_taken : (ns old new : List ℕ) (level left : ℕ) (row : List ℕ) → AreTaken ns old new level left row → (left ≡ 0) ⊎ (row ≡ [])
+    → (k : ℕ) → get_or new k 0 + get_or (path_of ns) k 0 ≡ get_or old k 0
+all_taken ns old new level left row a d k =
+    ap (λ (xs : List ℕ). get_or new k 0 + get_or xs k 0) (sym (all_told ns level left row a.rest_is a.left_is d)) ∙ a.sums k
 
 -- the stretches of a tile are the problem's
 pub joined_levels : (p : ProblemValue) (t : TileValue) (n : ℕ) → IsTile p t → length p.names + 1 ≡ n
@@ -344,25 +336,3 @@ joined_levels p t n i e = each t.first t.stretches i.joins
     each s [] j k d l = absurd (omega arith)
     each s (x ∷ xs) j zero d l = ap (λ (q : ProblemValue). length q.names + 1) j.0 ∙ e
     each s (x ∷ xs) j (suc k) d l = each x.to xs j.3 k d (omega arith)
-
-module _ (ts : List TileValue) (i : ℕ) (t : TileValue) (l : i < length ts) (e : t ≡ get_or ts i t) where
-  pub count_more : posted_count (take (i + 1) ts) ≡ posted_count (take i ts) + length t.stretches
-  count_more = sum_by_more (λ (t : TileValue). length t.stretches) ts i t l
-      ∙ ap (λ (u : TileValue). posted_count (take i ts) + length u.stretches) (sym e)
-
-  pub levels_of_more : (totals new : List ℕ) (n : ℕ) → AreLevelsOf (take i ts) n totals → length new ≡ length totals
-      → ((level : ℕ) → level < length totals → get_or new level 0 ≡ get_or totals level 0 + stretch_level t.stretches level)
-      → ((level : ℕ) → level < length totals → get_or new level 0 ≤ get_or totals level 0 + 4294967295 * length t.stretches)
-      → AreLevelsOf (take (i + 1) ts) n new
-  levels_of_more totals new n s a b d = record {
-    long = a ∙ s.long;
-    sums = λ level k.
-        let f = b level (let o = s.long in omega arith) in
-        let g = s.sums level k in
-        let m = sum_by_more (λ (t : TileValue). stretch_level t.stretches level) ts i t l in
-        let o = ap (λ (u : TileValue). stretch_level u.stretches level) e in omega arith;
-    small = λ level k.
-        let f = d level (let o = s.long in omega arith) in
-        let g = s.small level k in
-        let c = count_more in omega arith;
-  }

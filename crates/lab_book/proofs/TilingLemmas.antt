@@ -1,9 +1,9 @@
 -- A tiling whose tile at one place is changed.
 use Rattle.std.proofs.Common.{◌≡◌, ℕ, zero, suc, ◌<◌, ◌⊎◌, ◌==◌, true, false, Option, Some, List, [], ◌∷◌, length, get_or, sym, ap, ◌∙◌}
-use Rattle.std.proofs.Common.{subst, inl, inr, arith}
+use Rattle.std.proofs.Common.{inl, inr, arith}
 use Rattle.std.proofs.Math.ListN.{set}
 use Rattle.std.proofs.lemmas.Bool.Decides.{eqb_tells}
-use Rattle.std.proofs.lemmas.List.{length-set, get_or_default, get_or-set_same, get_or-set_other}
+use Rattle.std.proofs.lemmas.List.{length-set, get_or-set_same, get_or-set_other}
 use Rattle.cover_problem.specs.Problem.{ProblemValue}
 use Rattle.x_steps.specs.StateValue.{StateValue}
 use Rattle.x_branches.specs.declared.branch.Branch.{Branch}
@@ -19,11 +19,6 @@ tile_in p lo first (t ∷ []) hi zero a l = a.2
 tile_in p lo first (t ∷ []) hi (suc i) a l = absurd (omega arith)
 tile_in p lo first (t ∷ u ∷ ts) hi zero a l = a.2
 tile_in p lo first (t ∷ u ∷ ts) hi (suc i) a l = tile_in p (Some a.3) (cut_state a.3.path) (u ∷ ts) hi i a.5 (omega arith)
-
--- one of them that was read
-pub tile_read : (p : ProblemValue) (b : Branch) (first : StateValue) (ts : List TileValue) (i : ℕ) (t : TileValue) → IsTiling p b first ts
-    → i < length ts → t ≡ get_or ts i t → IsTile p t
-tile_read p b first ts i t h l e = subst (IsTile p) (sym (e ∙ get_or_default ts i t no_tile l)) (tile_in p b.lo first ts b.hi i h.tiles l)
 
 -- a tile with the same branch and first mark in the place of one
 tiles_set : (p : ProblemValue) (lo : Option CutPath) (first : StateValue) (ts : List TileValue) (hi : Option CutPath) (i : ℕ)

@@ -50,7 +50,7 @@ Refuses old new w c f = ((f ≡ OutOfMemory) × (new ≡ old)) ⊎ ((f ≡ OutOf
 
 -- the answer to a worker that leases a tile, as the history keeps it
 abbrev pub leased_reply : Leased → Reply
-leased_reply r = reply.Leased r.lease (cut_path r.branch.lo) (cut_path r.branch.hi) (state_value r.mark) r.waiting
+leased_reply r = reply.Leased r.lease (cut_path r.branch.lo) (cut_path r.branch.hi) r.mark r.waiting
 
 -- a book leased a tile by a call, and answered so
 abbrev pub Leases : BookValue → BookValue → ℕ → Call → Leased → Type 0
@@ -58,7 +58,7 @@ Leases old new w c r = Made old new w c (leased_reply r)
 
 -- the tile that was leased can be searched: a search can start at its mark
 abbrev pub CanBeSearched : ProblemValue → Leased → Type 0
-CanBeSearched p r = CanStart p r.branch (state_value r.mark)
+CanBeSearched p r = CanStart p r.branch r.mark
 
 -- and to one that leases any, where there may be none
 abbrev pub any_reply : Option Leased → Reply

@@ -5,3 +5,4 @@ pub mod Book
 pub mod Calls
 pub mod Index
 pub mod Posted
+pub mod Totals

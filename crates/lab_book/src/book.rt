@@ -1,5 +1,5 @@
 //! Books.
-ghost use Rattle.std.specs.Prelude.{◌≡◌, ◌<◌, length, IfSome, IfErr, OnOk};
+ghost use Rattle.std.specs.Prelude.{◌≡◌, ◌<◌, ◌^◌, length, IfSome, IfErr, OnOk};
 ghost use Rattle.cover_problem.specs.Answers.{Returns};
 ghost use Rattle.x_steps.specs.StateView.{state_value};
 ghost use Rattle.x_steps.specs.StateValue.{start};
@@ -7,6 +7,7 @@ ghost use Rattle.x_branches.specs.Cut.{IsCut};
 ghost use Rattle.x_branches.specs.Refusals.{CanStart, StartRefused};
 ghost use Rattle.x_branches.specs.Branch.{whole_run};
 ghost use Rattle.lab_book.specs.Book.{waiting_in, leased_in, IsTiled, new_book, replayed, outcome, refused, tile_place, first_book};
+ghost use Rattle.lab_book.specs.Posted.{posted_count};
 ghost use Rattle.lab_book.specs.Calls.{Refuses, RefusedIf, OutOfMemoryOr, ScribeNotesFault};
 
 mod ends;
@@ -20,11 +21,11 @@ use crate::status::Status;
 use crate::tile::Tile;
 use crate::tiles::Tiles;
 use cover_problem::{PlainTable, Problem, Table};
-use lab_history::{BookFault, Call, Entries, Entry, History, Mark, Reply, Scribe};
+use lab_history::{BookFault, Call, Entries, Entry, History, Reply, Scribe};
 use std::alloc::{AllocError, Global};
 use std::marker::Model;
 use x_branches::{Branch, Cut, Runner, RunnerFault, StartFault};
-use x_steps::{AtFault, Cursor, Label, Refused, State};
+use x_steps::{AtFault, Cursor, Label, Mark, Refused, State};
 
 /// The tiles into which a branch of a problem's run is parted, and the history of all calls. Its tiles are a tiling after every
 /// call, and it is the replay of its history.
@@ -120,7 +121,7 @@ impl<'p> Book<'p> {
         is_cut(&branch.hi);
         // The book keeps one of its own: a replay of the history begins there, whatever became of the tiles.
         let first = Mark::of(state)?;
-        let begin = Mark::of(state)?;
+        let begin = first.copy()?;
         let whole = branch.copy()?;
         let tile = Tile::whole(alloc, branch.copy()?, begin)?;
         let tiles = Tiles::of(alloc, tile)?;
@@ -249,6 +250,14 @@ impl<'p> Book<'p> {
     {
         // Where a field is read, what the whole keeps true is known.
         let _tiles = &self.tiles;
+    }
+
+    /// Each stretch was posted by a call, so there are fewer than a number of 64 bits can count.
+    fn count_calls(&self)
+        ensures { posted_count self.now.tiles < 2 ^ 64 }
+    {
+        // It is a number of 64 bits, and no post is without its entry.
+        let _calls = self.history.len();
     }
 
     /// Notes a refusal in the history and at a scribe, unless memory ran out, or runs out here.

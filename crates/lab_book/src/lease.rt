@@ -4,7 +4,7 @@ ghost use Rattle.std.specs.Prelude.{◌≡◌};
 use lab_history::Grant;
 use std::marker::Model;
 use x_branches::Branch;
-use x_steps::State;
+use x_steps::Mark;
 
 /// A worker's right to post to a tile. It can't be copied, and it has to be spent: by a call that ends it, or by `discard`.
 pub struct Lease {
@@ -66,7 +66,7 @@ impl Lease {
 pub struct Leased<'p> {
     pub lease: Lease,
     pub branch: Branch<'p>,
-    pub mark: State,
+    pub mark: Mark,
     pub waiting: u64,
 }
 

@@ -11,7 +11,7 @@ mod totals;
 
 pub use book::Book;
 pub use lab_history::{
-    BookFault, Call, CallKind, Entries, Entry, Grant, Mark, Path, Reply, Scribe, Unnoted,
+    BookFault, Call, CallKind, Entries, Entry, Grant, Path, Reply, Scribe, Unnoted,
 };
 pub use lease::{Lease, Leased, Posted};
 pub use status::Status;

@@ -10,16 +10,14 @@ ghost use Rattle.lab_book.specs.Book.{whole_tile, posted_tile, retracted_tile, l
 ghost use Rattle.lab_book.specs.Calls.{LeadTo};
 
 mod halves;
-mod totals;
 
 use crate::status::Status;
 use cover_problem::Lists;
-use lab_history::Mark;
 use packed_rows::Row;
 use std::alloc::{AllocError, Global};
 use std::marker::Model;
 use x_branches::{Branch, Cut, KeptStretches, Stretch};
-use x_steps::{Cursor, Label, State};
+use x_steps::{Cursor, Label, Mark, State};
 
 /// The parts of a tile.
 #[derive(Drop)]
@@ -68,11 +66,11 @@ fn end_state(alloc: Global, hi: &Option<Cut<'_>>) -> Result<Mark, AllocError>
 {
     match hi {
         Some(cut) => cut_state(alloc, cut),
-        None => Ok(Mark::from(State {
+        None => Mark::from(State {
             label: Label::Done,
             path: Vec::new(alloc),
             cursor: Cursor::None,
-        })),
+        }),
     }
 }
 
@@ -84,11 +82,19 @@ fn cut_state(alloc: Global, cut: &Cut<'_>) -> Result<Mark, AllocError>
     // A cut has a choice at least: at none the run hasn't chosen yet, and there is nothing to part.
     let (front, last) = choices.split_at(choices.len() - 1);
     let path = Vec::from_slice(alloc, front)?;
-    Ok(Mark::from(State {
+    let mark = Mark::from(State {
         label: Label::X5,
         path,
         cursor: Cursor::At(last[0]),
-    }))
+    })?;
+    Ok(mark)
+}
+
+/// Where a tile stands once it has come so far: one that is done shares the state that ends it.
+fn kept_mark(to: &Mark, end: &Mark) -> Result<Mark, AllocError>
+    ensures { IfOk result (λ mark. mark ≡ to.now) }
+{
+    if to.same(end) { end.copy() } else { to.copy() }
 }
 
 /// How many stretches come before the first mark that is a state: the marks are the first one and the ends of the stretches.
@@ -240,6 +246,13 @@ impl<'p> Tile<'p> {
         self.parts.mark.state()
     }
 
+    /// The same, to be shared.
+    pub(crate) fn own_mark(&self) -> &Mark
+        ensures { result.now ≡ mark_of self.now }
+    {
+        &self.parts.mark
+    }
+
     /// The state that ends it.
     pub(crate) fn end(&self) -> &State
         ensures { state_value result.now ≡ tile_end self.now }
@@ -263,7 +276,7 @@ impl<'p> Tile<'p> {
         ensures given_back { IfErr result (λ s. s ≡ stretch.entry) }
     {
         // While the stretch is whole: packed, its end could only be made again.
-        let Ok(mark) = Mark::of(stretch.to()) else {
+        let Ok(mark) = kept_mark(stretch.to_mark(), &self.parts.end) else {
             return Err(stretch);
         };
         let parts = &mut *self.parts;
@@ -280,8 +293,9 @@ impl<'p> Tile<'p> {
         if count == 0 {
             return self.parts.first.copy();
         }
-        let mark = self.stretches().stretch(count - 1).to(self.allocator())?;
-        Ok(Mark::from(mark))
+        let state = self.stretches().stretch(count - 1).to(self.allocator())?;
+        let mark = Mark::from(state)?;
+        Ok(mark)
     }
 
     /// Its last stretch, and the mark that it has without it.

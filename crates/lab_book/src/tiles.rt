@@ -1,24 +1,29 @@
 //! The tiles of a book in order, with what is kept beside them so that no call has to go over all.
-ghost use Rattle.std.specs.Prelude.{ℕ, ◌≡◌, ◌⊎◌, ◌≤◌, ◌<◌, ◌+◌, ◌-◌, ◌^◌, true, false, Some, cond, [], ◌∷◌, length, slice_set};
+ghost use Rattle.std.specs.Prelude.{ℕ, ◌≡◌, ◌⊎◌, ◌≤◌, ◌<◌, ◌+◌, ◌-◌, ◌^◌, true, false, Some, cond, [], ◌∷◌, length, slice_set, slice_index};
 ghost use Rattle.std.specs.Prelude.{Option, None, IsOk, IfSome, OnOk, OnErr, IfErr, IfOk};
 ghost use Rattle.lab_book.specs.Tile.{TileValue, is_leased, is_waiting, is_held, is_closed, mark_of};
 ghost use Rattle.lab_book.specs.Tiling.{tile_at, AreNumbered};
 ghost use Rattle.lab_book.specs.Book.{tile_place, first_waiting, waiting_in, leased_in, found, status_fault, lease_fault, posted_tile, open_fault};
 ghost use Rattle.lab_book.specs.Book.{retracted_tile, settled_tile, kept_tile};
 ghost use Rattle.lab_book.specs.Index.{WaitFrom};
+ghost use Rattle.lab_book.specs.Posted.{posted_count, posted_steps, posted_visits};
+ghost use Rattle.lab_book.specs.Totals.{of_level, measured_of};
 ghost use Rattle.lab_book.specs.Calls.{Judged, is_current, OutOfMemoryOr};
 
 mod splits;
 
 use crate::status::Status;
 use crate::tile::Tile;
-use lab_history::{BookFault, Grant, Mark};
+use crate::totals::Totals;
+use lab_history::{BookFault, Grant};
 use packed_rows::Row;
 use std::alloc::{AllocError, Global};
 use std::marker::Model;
 use x_branches::Stretch;
+use x_steps::Mark;
 
-/// The tiles in order, where the tile of each id and the first that waits are looked for, and how many wait and are leased.
+/// The tiles in order, where the tile of each id and the first that waits are looked for, how many wait and are leased, and the totals of
+/// what was posted of them.
 #[derive(Drop)]
 pub(crate) struct Tiles<'p> {
     list: Vec<Tile<'p>>,
@@ -28,6 +33,7 @@ pub(crate) struct Tiles<'p> {
     from: usize,
     waiting: usize,
     leased: usize,
+    totals: Totals,
     /// The row of the last stretch that was added: the next one mostly has the same long lists.
     draft: Row,
 }
@@ -41,7 +47,7 @@ impl<'p> Model for Tiles<'p> {
 
     ghost view = { λ t. t.list.items };
 
-    ghost invariant = { λ t. KeepsTiles t.list.items t.places.items t.from t.waiting t.leased };
+    ghost invariant = { λ t. KeepsTiles t.list.items t.places.items t.from t.waiting t.leased t.totals };
 }
 
 /// How many pass a test, where one that did or didn't now does or doesn't.
@@ -76,7 +82,7 @@ fn waits_from(from: usize, place: usize, waits: bool) -> usize
 pub(crate) fn stale(tile: &Tile<'_>) -> BookFault
     ensures { OutOfMemoryOr result (result ≡ BookFault.StaleLease (mark_of tile.now)) }
 {
-    match Mark::of(tile.mark()) {
+    match tile.own_mark().copy() {
         Ok(mark) => BookFault::StaleLease(mark),
         Err(_) => BookFault::OutOfMemory,
     }
@@ -115,6 +121,7 @@ impl<'p> Tiles<'p> {
     pub fn of(alloc: Global, tile: Tile<'p>) -> Result<Tiles<'p>, AllocError>
         requires id { tile.id ≡ 0 }
         requires waits { tile.status ≡ Status.Waiting }
+        requires unposted { tile.stretches ≡ [] }
         ensures { IfOk result (λ tiles. tiles ≡ tile.entry ∷ []) }
     {
         let mut list = Vec::with_capacity(alloc, 1)?;
@@ -128,6 +135,7 @@ impl<'p> Tiles<'p> {
             from: 0,
             waiting: 1,
             leased: 0,
+            totals: Totals::none(alloc),
             draft: Row::new(alloc),
         })
     }
@@ -152,6 +160,27 @@ impl<'p> Tiles<'p> {
         ensures { result ≡ leased_in self.now }
     {
         self.leased as u64
+    }
+
+    /// How many paths the posted stretches visit.
+    pub fn visited(&self) -> u128
+        ensures { result ≡ length (posted_visits self.now) }
+    {
+        self.totals.visited()
+    }
+
+    /// How many steps the posted stretches have.
+    pub fn steps(&self) -> u128
+        ensures { result ≡ posted_steps self.now }
+    {
+        self.totals.steps()
+    }
+
+    /// How many X2 states the posted stretches have at each level.
+    pub fn levels(&self) -> &[u128]
+        ensures { (level : ℕ) → slice_index result.now level ≡ measured_of (of_level level) self.now }
+    {
+        self.totals.levels()
     }
 
     /// How many wait beside the tile at a place.
@@ -297,13 +326,23 @@ impl<'p> Tiles<'p> {
 
     /// Adds a stretch to the tile at a place; where memory runs out, nothing changes and it comes back.
     pub fn add(&mut self, i: usize, stretch: Stretch<'p>) -> Result<(), Stretch<'p>>
-        requires { i < length self.old }
+        requires within { i < length self.old }
+        requires room { posted_count self.old < 2 ^ 64 }
         ensures added { OnOk result (self.new ≡ slice_set self.old i (posted_tile (tile_at self.old i) stretch.entry)) }
         ensures unchanged { OnErr result (self.new ≡ self.old) }
         ensures given_back { IfErr result (λ s. s ≡ stretch.entry) }
     {
         self.keep_place(i);
-        self.list[i].add(&mut self.draft, stretch)
+        // First, so that nothing can fail behind it: a total of nothing is kept for nothing.
+        let Ok(()) = self.totals.reach(stretch.levels().len()) else {
+            return Err(stretch);
+        };
+        let visited = stretch.visits().len() as u64;
+        self.list[i].add(&mut self.draft, stretch)?;
+        let stretches = self.list[i].stretches();
+        self.totals
+            .add(visited, &stretches.stretch(stretches.len() - 1));
+        Ok(())
     }
 
     /// Takes the last stretch of the tile at a place out: its mark is this one then.
@@ -314,6 +353,8 @@ impl<'p> Tiles<'p> {
         ensures { self.new ≡ slice_set self.old i (retracted_tile (tile_at self.old i)) }
     {
         self.keep_place(i);
+        let stretches = self.list[i].stretches();
+        self.totals.take_behind(stretches, stretches.len() - 1);
         self.list[i].retract(mark);
     }
 
@@ -325,6 +366,7 @@ impl<'p> Tiles<'p> {
         ensures { self.new ≡ slice_set self.old i (kept_tile count (tile_at self.old i)) }
     {
         self.keep_place(i);
+        self.totals.take_behind(self.list[i].stretches(), count);
         self.list[i].put_back(count, mark);
     }
 }

@@ -3,7 +3,6 @@ use Rattle.std.proofs.Common.{◌≡◌, ℕ, zero, suc, true, false, Some, None
 use Rattle.std.proofs.lemmas.Option.{same_Some}
 use Rattle.cover_problem.specs.Problem.{ProblemValue}
 use Rattle.cover_problem.specs.declared.fault.Refused.{Refused}
-use Rattle.x_steps.specs.declared.state.State.{State}
 use Rattle.x_steps.specs.StateValue.{StateValue, start}
 use Rattle.x_branches.specs.declared.branch.Branch.{Branch}
 use Rattle.x_branches.specs.Branch.{whole_run}
@@ -137,20 +136,20 @@ abbrev idle : SeatValue
 idle = seat 0
 
 -- what it is answered to a lease of the whole run, by the entry 0
-abbrev leased : State → Leased
+abbrev leased : StateValue → Leased
 leased s = record { lease = lease; branch = whole_run; mark = s; waiting = 0 }
 
 -- a lease is noted at its index, and not at the next one
 not_at_the_next : ¬ Notes 0 [] (noted 1 zero_leases ∷ []) 0 call.LeaseAny (reply.Leased lease None None start 0)
 not_at_the_next e = let h = ap (λ ns. (get_or ns 0 (noted 0 zero_leases)).index) e in omega (arith, h)
 
-lease_is_noted : (s : State) → ¬ NotesLease {E = ℕ} idle idle (call.Lease 0) (Ok (leased s))
+lease_is_noted : (s : StateValue) → ¬ NotesLease {E = ℕ} idle idle (call.Lease 0) (Ok (leased s))
 lease_is_noted s e = let h = ap length e in omega (arith, h)
 
 none_is_noted : ¬ NotesAnyLease {E = ℕ} idle idle (Ok None)
 none_is_noted e = let h = ap length e.1 in omega (arith, h)
 
-any_lease_is_noted : (s : State) → ¬ NotesAnyLease {E = ℕ} idle idle (Ok (Some (leased s)))
+any_lease_is_noted : (s : StateValue) → ¬ NotesAnyLease {E = ℕ} idle idle (Ok (Some (leased s)))
 any_lease_is_noted s e = let h = ap length e in omega (arith, h)
 
 end_is_noted : ¬ NotesDone {X = ℕ} {E = ℕ} idle idle (call.Park lease) (Ok 0)

@@ -3,7 +3,7 @@ use Rattle.std.proofs.Common.{◌≡◌, ℕ, ◌<◌, Bool, true, false, Option
 use Rattle.std.specs.Prelude as prelude
 use Rattle.std.proofs.lemmas.List.{append-nil}
 use Rattle.x_steps.specs.StateValue.{StateValue}
-use Rattle.x_codes.specs.StateCode.{path_code, state_code, state_of, state_rest, ReadsPath, ReadsState}
+use Rattle.x_codes.specs.StateCode.{path_code, state_code, state_of, state_rest, after_code, after_of, after_rest, ReadsPath, ReadsState, ReadsAfter}
 use Rattle.lab_history.specs.declared.grant.Grant.{Grant}
 use Rattle.lab_history.specs.declared.fault.BookFault.{BookFault}
 use Rattle.lab_history.specs.declared.fault.BookFault.TheVariants.{StaleLease}
@@ -38,15 +38,17 @@ pub reads_stale : (s : StateValue) → ReadsState s → ReadsFault (StaleLease s
 unfolding fault_code fault_of
 reads_stale s r = ap StaleLease (ap state_of (sym (append-nil (state_code s))) ∙ (r []).0)
 
-pub reads_post : (g : Grant) (from to : StateValue) (same : Bool) → ReadsGrant g → ReadsState from → ReadsState to → ReadsCall (call.Post g from to same)
+pub reads_post : (g : Grant) (from to : StateValue) (same : Bool) → ReadsGrant g → ReadsState from → ReadsAfter from.path to
+    → ReadsCall (call.Post g from to same)
 unfolding call_code call_of call_rest grant_code
 reads_post g from to same gr f t = λ rest.
-    let a = append_assoc (state_code from) (state_code to) rest in
-    let x = f (state_code to ++ rest) in let y = t rest in
-    let mid : state_rest ((state_code from ++ state_code to) ++ rest) ≡ state_code to ++ rest = ap state_rest a ∙ x.1 in
-    let first : state_of ((state_code from ++ state_code to) ++ rest) ≡ from = ap state_of a ∙ x.0 in
-    let second = ap state_of mid ∙ y.0 in
-    ((λ j. call.Post (gr ((state_code from ++ state_code to) ++ rest) j) (first j) (second j) (bool_back same j)), ap state_rest mid ∙ y.1)
+    let ends = after_code from.path to in
+    let a = append_assoc (state_code from) ends rest in
+    let x = f (ends ++ rest) in let y = t rest in
+    let mid : state_rest ((state_code from ++ ends) ++ rest) ≡ ends ++ rest = ap state_rest a ∙ x.1 in
+    let first : state_of ((state_code from ++ ends) ++ rest) ≡ from = ap state_of a ∙ x.0 in
+    let second = (λ j. after_of (first j).path (mid j)) ∙ y.0 in
+    ((λ j. call.Post (gr ((state_code from ++ ends) ++ rest) j) (first j) (second j) (bool_back same j)), ap after_rest mid ∙ y.1)
 
 pub reads_split : (g : Grant) (path : List ℕ) (same : Bool) → ReadsGrant g → ReadsPath path → ReadsCall (call.Split g path same)
 unfolding call_code call_of call_rest grant_code

@@ -10,7 +10,7 @@ use Rattle.std.specs.List.{All}
 use Rattle.std.specs.Prelude as prelude
 use Rattle.std.specs.Global.{Vec}
 use Rattle.packed_rows.specs.Rows.{RowsValue}
-use Rattle.x_codes.specs.StateCode.{later, path_code, path_of, path_rest, state_code, state_of, state_rest}
+use Rattle.x_codes.specs.StateCode.{later, after_code, after_of, after_rest, path_code, path_of, path_rest, state_code, state_of, state_rest}
 use Rattle.lab_history.specs.declared.grant.Grant.{Grant}
 use Rattle.lab_history.specs.declared.fault.BookFault.{BookFault}
 use Rattle.lab_history.specs.declared.fault.BookFault.TheVariants.{UnknownBranch, NotWaiting, StaleLease, ForeignProblem, NotAfterMark}
@@ -99,7 +99,7 @@ unfoldable pub call_code : Call → List ℕ
 call_code (call.Lease id) = 0 ∷ id ∷ []
 call_code call.LeaseAny = 1 ∷ []
 call_code (call.TakeHeld id) = 2 ∷ id ∷ []
-call_code (call.Post g from to same) = 3 ∷ bool_code same ∷ grant_code g ++ (state_code from ++ state_code to)
+call_code (call.Post g from to same) = 3 ∷ bool_code same ∷ grant_code g ++ (state_code from ++ after_code from.path to)
 call_code (call.Split g path same) = 4 ∷ bool_code same ∷ grant_code g ++ path_code path
 call_code (call.Retract g) = 5 ∷ grant_code g
 call_code (call.Park g) = 6 ∷ grant_code g
@@ -110,7 +110,9 @@ call_code (call.RequestStop id) = 10 ∷ id ∷ []
 
 -- a post: whether its problem is that of the book, its lease, and the two states between which it leads
 abbrev pub post_read : List ℕ → Call
-post_read ns = call.Post (grant_of (later ns)) (state_of (grant_rest (later ns))) (state_of (state_rest (grant_rest (later ns)))) (bool_of (slice_index ns 0))
+post_read ns =
+    let from = state_of (grant_rest (later ns)) in
+    call.Post (grant_of (later ns)) from (after_of from.path (state_rest (grant_rest (later ns)))) (bool_of (slice_index ns 0))
 
 -- a split: whether its problem is that of the book, its lease, and the choices of its cut
 abbrev pub split_read : List ℕ → Call
@@ -132,7 +134,7 @@ call_with n ns =
 abbrev pub call_rest_with : ℕ → List ℕ → List ℕ
 call_rest_with n ns =
     if n == 0 then later ns else (if n == 1 then ns else (if n == 2 then later ns else
-    (if n == 3 then state_rest (state_rest (grant_rest (later ns))) else (if n == 4 then path_rest (grant_rest (later ns)) else (if n == 5 then grant_rest ns else
+    (if n == 3 then after_rest (state_rest (grant_rest (later ns))) else (if n == 4 then path_rest (grant_rest (later ns)) else (if n == 5 then grant_rest ns else
     (if n == 6 then grant_rest ns else (if n == 7 then grant_rest ns else (if n == 8 then grant_rest ns else
     (if n == 9 then state_rest (later ns) else later ns)))))))))
 

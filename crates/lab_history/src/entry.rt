@@ -8,9 +8,10 @@ use crate::code::put_entry;
 use crate::fault::BookFault;
 use crate::grant::Grant;
 use crate::kind::CallKind;
-use crate::mark::{Mark, Path};
+use crate::path::Path;
 use packed_rows::Row;
 use std::alloc::AllocError;
+use x_steps::Mark;
 
 /// A call, as the history keeps it: a stretch by its two states, a cut by its choices, each with whether its problem is the
 /// book's, and a lease by its parts.

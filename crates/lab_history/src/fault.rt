@@ -2,8 +2,8 @@
 ghost use Rattle.std.specs.Prelude.{◌≡◌, ◌↔◌, IfOk, IsTrue};
 ghost use Rattle.lab_history.specs.Faults.{number_of, name_of};
 
-use crate::mark::Mark;
 use std::alloc::AllocError;
+use x_steps::Mark;
 
 /// Why a call of a book was refused.
 #[derive(Debug, Drop)]

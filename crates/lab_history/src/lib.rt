@@ -9,7 +9,7 @@ mod fault;
 mod grant;
 mod history;
 mod kind;
-mod mark;
+mod path;
 mod scribe;
 
 pub use entries::Entries;
@@ -18,5 +18,5 @@ pub use fault::BookFault;
 pub use grant::Grant;
 pub use history::History;
 pub use kind::CallKind;
-pub use mark::{Mark, Path};
+pub use path::Path;
 pub use scribe::{Scribe, Unnoted};

@@ -6,7 +6,6 @@
 -- refused its search ends. proofs/WorkerExamples.antt computes it.
 use Rattle.std.specs.Prelude.{◌≡◌, ◌⊎◌, List, Option, Result, IfOk, IfSome}
 use Rattle.cover_problem.specs.Problem.{ProblemValue}
-use Rattle.x_steps.specs.StateView.{state_value}
 use Rattle.x_branches.specs.Runner.{RunnerValue, runner_at}
 use Rattle.lab_history.specs.declared.grant.Grant.{Grant}
 use Rattle.lab_book.specs.declared.lease.Leased.{Leased}
@@ -74,4 +73,4 @@ KeepsSeat old new = (new.number ≡ old.number) × (new.kept ≡ old.kept)
 
 -- the runner that a lease asks for: in its tile's branch, at its mark
 abbrev pub runner_for : ProblemValue → Leased → RunnerValue
-runner_for p l = runner_at p l.branch (state_value l.mark)
+runner_for p l = runner_at p l.branch l.mark

@@ -25,7 +25,7 @@ pub fn begin<'p>(alloc: Global, problem: &'p Problem, leased: Leased<'p>) -> Opt
         mark,
         waiting: _,
     } = leased;
-    match runner_of(alloc, problem, branch, &mark) {
+    match runner_of(alloc, problem, branch, mark.state()) {
         Ok(runner) => Some(Search { lease, runner }),
         Err(_) => {
             lease.discard();

@@ -2,7 +2,8 @@
 use Rattle.std.proofs.Common.{◌≡◌, ℕ, zero, suc, Some, ◌<◌, List, [], ◌∷◌, ◌++◌, length, replicate, take, get_or, slice_get, refl, sym, ap, ◌∙◌, subst, arith, append_assoc}
 use Rattle.std.proofs.lemmas.List.{append-nil}
 use Rattle.x_steps.specs.StateValue.{StateValue}
-use Rattle.x_codes.specs.StateCode.{path_code, path_of, path_rest, paths_code, paths_of, paths_rest, state_code, state_of, state_rest, ReadsPath, ReadsPaths, ReadsState}
+use Rattle.x_codes.specs.StateCode.{path_code, path_of, path_rest, paths_code, paths_of, paths_rest, state_code, state_of, state_rest}
+use Rattle.x_codes.specs.StateCode.{after_code, after_of, ReadsPath, ReadsPaths, ReadsState, ReadsAfter}
 use Rattle.x_branches.specs.Stretch.{StretchValue, KeepsStretch, HeadValue, KeepsRow, KeepsRows}
 use Rattle.x_branches.specs.Stretch.{counts_of, counts_rest, kept_value, kept_values, kept_ends, kept_visits, kept_levels, visits_of_stretch, levels_of_stretch}
 
@@ -67,27 +68,29 @@ pub record IsPacked (ns : List ℕ) (vs : List (List ℕ)) (ls : List ℕ) (s t 
   pub visits : kept_visits ns ≡ vs
   pub levels : kept_levels ns ≡ ls
   pub from : state_of (kept_ends ns) ≡ s
-  pub to : state_of (state_rest (kept_ends ns)) ≡ t
+  pub to : after_of (state_of (kept_ends ns)).path (state_rest (kept_ends ns)) ≡ t
 
-pub packed_is : (zeros : ℕ) (front counts levels : List ℕ) (visits : List (List ℕ)) (from to : StateValue) (none one two three four ns : List ℕ)
-    → levels ≡ front ++ counts → front ≡ replicate zeros 0 → ReadsPath counts → ReadsPaths visits → ReadsState from → ReadsState to
+pub packed_is : (zeros : ℕ) (front counts levels : List ℕ) (visits : List (List ℕ)) (from to : StateValue) (before none one two three four ns : List ℕ)
+    → levels ≡ front ++ counts → front ≡ replicate zeros 0 → ReadsPath counts → ReadsPaths visits → ReadsState from → ReadsAfter before to → before ≡ from.path
     → none ≡ [] → one ≡ none ++ zeros ∷ [] → two ≡ one ++ path_code counts → three ≡ two ++ paths_code visits → four ≡ three ++ state_code from
-    → ns ≡ four ++ state_code to → IsPacked ns visits levels from to
-packed_is zeros front counts levels visits from to none one two three four ns l f rl rv rf rt e0 e1 e2 e3 e4 e5 =
-    let ends = state_code from ++ (state_code to ++ []) in
+    → ns ≡ four ++ after_code before to → IsPacked ns visits levels from to
+packed_is zeros front counts levels visits from to before none one two three four ns l f rl rv rf rt b e0 e1 e2 e3 e4 e5 =
+    let last = after_code before to in
+    let ends = state_code from ++ (last ++ []) in
     let told = paths_code visits ++ ends in
     let whole : ns ≡ zeros ∷ (path_code counts ++ told) =
-    e5 ∙ ap (λ xs. xs ++ state_code to) (e4 ∙ ap (λ xs. xs ++ state_code from) (e3 ∙ ap (λ xs. xs ++ paths_code visits)
+    e5 ∙ ap (λ xs. xs ++ last) (e4 ∙ ap (λ xs. xs ++ state_code from) (e3 ∙ ap (λ xs. xs ++ paths_code visits)
     (e2 ∙ ap (λ xs. xs ++ path_code counts) (e1 ∙ ap (λ xs. xs ++ zeros ∷ []) e0))))
-    ∙ append_assoc (zeros ∷ (path_code counts ++ paths_code visits)) (state_code from) (state_code to)
-    ∙ ap (λ xs. zeros ∷ xs) (append_assoc (path_code counts) (paths_code visits) (state_code from ++ state_code to))
-    ∙ ap (λ xs. zeros ∷ (path_code counts ++ (paths_code visits ++ (state_code from ++ xs)))) (sym (append-nil (state_code to))) in
+    ∙ append_assoc (zeros ∷ (path_code counts ++ paths_code visits)) (state_code from) last
+    ∙ ap (λ xs. zeros ∷ xs) (append_assoc (path_code counts) (paths_code visits) (state_code from ++ last))
+    ∙ ap (λ xs. zeros ∷ (path_code counts ++ (paths_code visits ++ (state_code from ++ xs)))) (sym (append-nil last)) in
     let after_counts : counts_rest ns ≡ told = ap counts_rest whole ∙ (rl told).1 in
     let after_visits : kept_ends ns ≡ ends = ap paths_rest after_counts ∙ (rv ends).1 in
+    let first : state_of (kept_ends ns) ≡ from = ap state_of after_visits ∙ (rf (last ++ [])).0 in
     record {
       visits = ap paths_of after_counts ∙ (rv ends).0;
       levels = ap counts_of whole ∙ ap (λ xs. replicate zeros 0 ++ xs) (rl told).0
           ∙ sym (l ∙ ap (λ xs. xs ++ counts) f);
-      from = ap state_of after_visits ∙ (rf (state_code to ++ [])).0;
-      to = ap state_of (ap state_rest after_visits ∙ (rf (state_code to ++ [])).1) ∙ (rt []).0;
+      from = first;
+      to = (λ j. after_of ((ap (λ (s : StateValue). s.path) first ∙ sym b) j) ((ap state_rest after_visits ∙ (rf (last ++ [])).1) j)) ∙ (rt []).0;
     }

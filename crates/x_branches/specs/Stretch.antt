@@ -2,15 +2,15 @@
 -- (`KeepsStretch`), it as a row of numbers (`kept_value`, `kept_visits`, `kept_levels`, `KeepsRow`), and many (`kept_values`, `KeepsRows`).
 --
 -- Example: the step from X2 to X8 with the path 4 5 1, a visit of the small problem, is the row 3 1 1 for no X2 state at three levels and then,
--- at one level, one; 1 3 4 5 1 for one visit of three choices; and then 2 0 0 3 4 5 1 and 8 0 0 3 4 5 1. proofs/RunnerExamples.antt computes
--- it.
+-- at one level, one; 1 3 4 5 1 for one visit of three choices; 2 0 0 3 4 5 1; and 3 8 0 0 0, since the second state has all three choices
+-- of the first. proofs/RunnerExamples.antt computes it.
 use Rattle.std.specs.Prelude.{◌≡◌, ℕ, List, [], ◌∷◌, ◌++◌, ⊤, replicate, slice_index}
 use Rattle.cover_problem.specs.Problem.{ProblemValue}
 use Rattle.x_steps.specs.StateValue.{StateValue}
 use Rattle.x_steps.specs.Steps.{Fits}
 use Rattle.x_steps.specs.Run.{ReachesIn, steps_between, visits_between}
 use Rattle.x_steps.specs.Levels.{trimmed_levels}
-use Rattle.x_codes.specs.StateCode.{later, path_of, path_rest, state_of, state_rest, paths_of, paths_rest}
+use Rattle.x_codes.specs.StateCode.{later, after_of, path_of, path_rest, state_of, state_rest, paths_of, paths_rest}
 
 -- a problem, and two states of its run: what lies between them is a function of these
 pub record StretchValue : Type 0 where
@@ -38,8 +38,8 @@ pub record KeepsStretch (p : ProblemValue) (s t : StateValue) (steps : ℕ) (vis
   pub visits_are : visits ≡ visits_between p s t
   pub levels_are : levels ≡ trimmed_levels p s t
 
--- ---- a stretch as a row of numbers: how many X2 states there are at each level, then its visits, its first state, and the one that it
--- leads to
+-- ---- a stretch as a row of numbers: how many X2 states there are at each level, then its visits, its first state, and after the choices
+-- of that the state that it leads to
 
 -- the counts at the head of a row: how many are 0 before the others, and then these as a list
 abbrev pub counts_of : List ℕ → List ℕ
@@ -55,7 +55,11 @@ kept_ends ns = paths_rest (counts_rest ns)
 
 -- the stretch that a row tells, of a problem
 abbrev pub kept_value : ProblemValue → List ℕ → StretchValue
-kept_value p ns = record { problem = p; from = state_of (kept_ends ns); to = state_of (state_rest (kept_ends ns)) }
+kept_value p ns = record {
+  problem = p;
+  from = state_of (kept_ends ns);
+  to = after_of (state_of (kept_ends ns)).path (state_rest (kept_ends ns));
+}
 
 -- the visits that a row tells
 abbrev pub kept_visits : List ℕ → List (List ℕ)

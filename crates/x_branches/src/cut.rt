@@ -11,23 +11,26 @@ use crate::position::Position;
 use cover_problem::{PlainTable, Problem, Table};
 use std::alloc::{AllocError, Global};
 use std::marker::Model;
+use std::sync::ArcSlice;
 use x_steps::{AtFault, Cursor, Label, Machine, Refused, State};
 
-/// A nonempty path that a search can take. It stands for the state X5 at its last option, after its other choices.
+/// A nonempty path that a search can take. It stands for the state X5 at its last option, after its other choices. Its copies share the
+/// path: it may be long, and a cut ends one branch and begins another.
 #[derive(Drop)]
 pub struct Cut<'p> {
     problem: &'p Problem,
-    path: Vec<u32>,
+    path: ArcSlice<u32, Global>,
 }
 
 impl<'p> Model for Cut<'p> {
+    ghost use Rattle.std.specs.Arc.{arc_slice_items};
     ghost use Rattle.x_branches.specs.Cut.{CutPath, IsCut};
 
     ghost Value = { CutPath };
 
-    ghost view = { λ c. record { problem = c.problem.now; path = c.path.items } };
+    ghost view = { λ c. record { problem = c.problem.now; path = arc_slice_items c.path } };
 
-    ghost invariant = { λ c. IsCut c.problem.now c.path.items };
+    ghost invariant = { λ c. IsCut c.problem.now (arc_slice_items c.path) };
 }
 
 /// Why a path is no cut, where the search has no such state.
@@ -97,7 +100,13 @@ impl<'p> Cut<'p> {
                     let fault = CutFault::NotUntried;
                     return (table, Err(Refused { fault, given: path }));
                 }
-                (table, Ok(Cut { problem, path }))
+                match Cut::of_path(alloc, problem, &path) {
+                    Ok(cut) => (table, Ok(cut)),
+                    Err(_) => {
+                        let fault = CutFault::OutOfMemory;
+                        (table, Err(Refused { fault, given: path }))
+                    }
+                }
             }
             Err(refused) => {
                 let fault = fault_of(refused.fault);
@@ -107,11 +116,16 @@ impl<'p> Cut<'p> {
     }
 
     /// The cut of a path that is one.
-    pub(crate) fn of_path(problem: &'p Problem, path: Vec<u32>) -> Cut<'p>
-        requires { IsCut problem.now path.items }
-        ensures { result ≡ path_cut problem.now path.items }
+    pub(crate) fn of_path(
+        alloc: Global,
+        problem: &'p Problem,
+        path: &[u32],
+    ) -> Result<Cut<'p>, AllocError>
+        requires { IsCut problem.now path.now }
+        ensures { Returns result (path_cut problem.now path.now) }
     {
-        Cut { problem, path }
+        let path = ArcSlice::from_slice(alloc, path)?;
+        Ok(Cut { problem, path })
     }
 
     /// What is true of every cut, for a proof that needs it: its choices are those of a cut of its problem.
@@ -127,7 +141,7 @@ impl<'p> Cut<'p> {
         ensures path { result.now ≡ self.now.path }
         ensures cut { IsCut self.now.problem self.now.path }
     {
-        &self.path
+        self.path.as_slice()
     }
 
     /// Where its state stands.
@@ -136,7 +150,7 @@ impl<'p> Cut<'p> {
         ensures position { result ≡ cut_state self.now.path }
         ensures fits { Fits self.now.problem (cut_state self.now.path) }
     {
-        Position::at_cut(&self.path)
+        Position::at_cut(self.path.as_slice())
     }
 
     /// Its problem.
@@ -150,10 +164,10 @@ impl<'p> Cut<'p> {
     pub fn same(&self, other: &Cut<'_>) -> bool
         ensures { IsTrue result ↔ (self.now ≡ other.now) }
     {
-        self.problem.same(other.problem) && self.path == other.path
+        self.problem.same(other.problem) && self.path() == other.path()
     }
 
-    /// A copy, with a path of its own.
+    /// The same cut, without a copy of its path.
     pub fn copy(&self) -> Result<Cut<'p>, AllocError>
         ensures { IfOk result (λ cut. cut ≡ self.now) }
     {

@@ -13,10 +13,10 @@ use packed_rows::{Reader, Row, Rows};
 use std::alloc::{AllocError, Global};
 use std::marker::Model;
 use x_codes::{
-    put_path, put_paths, put_state, read_path, read_paths, read_state, skip_path, skip_paths,
-    skip_state,
+    put_after, put_path, put_paths, put_state, read_after, read_path, read_paths, read_state,
+    skip_path, skip_paths,
 };
-use x_steps::State;
+use x_steps::{Mark, State};
 
 /// What is kept of a stretch beside its row: telling it reads nothing.
 #[derive(Drop)]
@@ -101,8 +101,10 @@ fn pack(row: &mut Row, stretch: &Stretch<'_>) -> Result<(), AllocError>
     row.put(zeros as u64)?;
     put_path(row, counts)?;
     put_paths(row, stretch.visits())?;
-    put_state(row, stretch.from())?;
-    put_state(row, stretch.to())?;
+    let from = stretch.from();
+    put_state(row, from)?;
+    // Both begin alike, mostly but for the last choices.
+    put_after(row, &from.path, stretch.to())?;
     Ok(())
 }
 
@@ -274,7 +276,9 @@ impl<'a, 'p> KeptStretch<'a, 'p> {
         let mut visits = Lists::new(alloc);
         read_paths(alloc, &mut reader, &mut visits)?;
         let from = read_state(alloc, &mut reader)?;
-        let to = read_state(alloc, &mut reader)?;
+        let to = read_after(alloc, &mut reader, &from.path)?;
+        let from = Mark::from(from)?;
+        let to = Mark::from(to)?;
         Ok(Stretch {
             problem: self.problem,
             from,
@@ -304,8 +308,8 @@ impl<'a, 'p> KeptStretch<'a, 'p> {
         ensures { IfOk result (λ state. state_value state ≡ self.now.to) }
     {
         let mut reader = ends(self.rows.row(self.place));
-        skip_state(&mut reader);
-        read_state(alloc, &mut reader)
+        let from = read_state(alloc, &mut reader)?;
+        read_after(alloc, &mut reader, &from.path)
     }
 
     /// How many steps it has.

@@ -23,7 +23,7 @@ use crate::fault::{RunnerFault, StartFault};
 use cover_problem::{Lists, Problem, Table};
 use std::alloc::{AllocError, Global};
 use std::marker::Model;
-use x_steps::{Event, Label, Machine, Refused, State, no_counts};
+use x_steps::{Event, Label, Machine, Mark, Refused, State, no_counts};
 
 /// A search in one branch of a run. The stretch from its mark up to its position is unposted: the runner keeps how many steps
 /// it has, its visits, and how many X2 states it has at each level.
@@ -31,7 +31,7 @@ use x_steps::{Event, Label, Machine, Refused, State, no_counts};
 pub struct Runner<'p, T: Table> {
     machine: Machine<'p, T>,
     branch: Branch<'p>,
-    mark: State,
+    mark: Mark,
     steps: u32,
     visits: Lists,
     /// For each level from 0 up to the number of items.
@@ -47,14 +47,14 @@ impl<'p, T: Table> Model for Runner<'p, T> {
     ghost view = { λ r. record {
       problem = r.machine.problem;
       branch = r.branch;
-      mark = state_value r.mark;
+      mark = r.mark;
       position = r.machine.state;
     } };
 
     ghost invariant = { λ r. KeepsRunner (record {
       problem = r.machine.problem;
       branch = r.branch;
-      mark = state_value r.mark;
+      mark = r.mark;
       position = r.machine.state;
     }) r.steps r.visits r.counts.items };
 }
@@ -170,7 +170,7 @@ impl<'p, T: Table> Runner<'p, T> {
                 given: (machine.into_table(), branch),
             });
         };
-        let Ok(mark) = state.copy() else {
+        let Ok(mark) = Mark::of(state) else {
             return Err(Refused {
                 fault: StartFault::Runner(RunnerFault::OutOfMemory),
                 given: (machine.into_table(), branch),
@@ -239,7 +239,7 @@ impl<'p, T: Table> Runner<'p, T> {
     pub fn mark(&self) -> &State
         ensures { state_value result.now ≡ self.now.mark }
     {
-        &self.mark
+        self.mark.state()
     }
 
     /// Its branch.

@@ -8,14 +8,14 @@ ghost use Rattle.x_branches.specs.Stretch.{IsStretch};
 use cover_problem::{Lists, Problem};
 use std::alloc::AllocError;
 use std::marker::Model;
-use x_steps::State;
+use x_steps::{Mark, State};
 
 /// The part of a problem's run from one state up to another, without that one.
 #[derive(Drop)]
 pub struct Stretch<'p> {
     pub(crate) problem: &'p Problem,
-    pub(crate) from: State,
-    pub(crate) to: State,
+    pub(crate) from: Mark,
+    pub(crate) to: Mark,
     pub(crate) steps: u32,
     pub(crate) visits: Lists,
     /// How many X2 states there are at each level, up to the last level that has one.
@@ -28,9 +28,9 @@ impl<'p> Model for Stretch<'p> {
 
     ghost Value = { StretchValue };
 
-    ghost view = { λ s. record { problem = s.problem.now; from = state_value s.from; to = state_value s.to } };
+    ghost view = { λ s. record { problem = s.problem.now; from = s.from; to = s.to } };
 
-    ghost invariant = { λ s. KeepsStretch s.problem.now (state_value s.from) (state_value s.to) s.steps s.visits s.levels.items };
+    ghost invariant = { λ s. KeepsStretch s.problem.now s.from s.to s.steps s.visits s.levels.items };
 }
 
 impl<'p> Stretch<'p> {
@@ -54,12 +54,26 @@ impl<'p> Stretch<'p> {
         ensures state { state_value result.now ≡ self.now.from }
         ensures stretch { IsStretch self.now.problem self.now.from self.now.to }
     {
+        self.from.state()
+    }
+
+    /// The same, to be shared.
+    pub fn from_mark(&self) -> &Mark
+        ensures { result.now ≡ self.now.from }
+    {
         &self.from
     }
 
     /// The state that it leads to, which isn't in it.
     pub fn to(&self) -> &State
         ensures { state_value result.now ≡ self.now.to }
+    {
+        self.to.state()
+    }
+
+    /// The same, to be shared.
+    pub fn to_mark(&self) -> &Mark
+        ensures { result.now ≡ self.now.to }
     {
         &self.to
     }

@@ -1,5 +1,5 @@
 -- States are read back from their numbers.
-use Rattle.std.proofs.Common.{◌≡◌, ℕ, zero, suc, ◌+◌, ◌-◌, ◌<◌, ◌≤◌, List, [], ◌∷◌, ◌++◌, length, take, drop, map, get_or, refl, sym, ap, ◌∙◌, arith, append_assoc}
+use Rattle.std.proofs.Common.{inl, inr, ◌⊎◌, ◌≡◌, ℕ, zero, suc, ◌+◌, ◌-◌, ◌<◌, ◌≤◌, List, [], ◌∷◌, ◌++◌, length, take, drop, map, get_or, refl, sym, ap, ◌∙◌, arith, append_assoc, eq-eqb}
 use Rattle.std.proofs.Math.Seq.{take-append_seam, drop-append_seam}
 use Rattle.std.specs.List.{flat_map}
 use Rattle.std.proofs.lemmas.List.Concat.{flat_map-cons}
@@ -10,6 +10,10 @@ use Rattle.x_steps.specs.declared.state.Cursor.TheVariants as cursor
 use Rattle.x_steps.specs.StateValue.{StateValue}
 use Rattle.x_codes.specs.StateCode.{choice_of, label_number, label_of, cursor_kind, cursor_choice, cursor_of}
 use Rattle.x_codes.specs.StateCode.{path_code, path_of, path_rest, state_code, state_of, state_rest, ReadsPath, ReadsState}
+use Rattle.x_codes.specs.StateCode.{shared_count, state_below, after_code, after_of, after_rest, ReadsAfter}
+use Rattle.x_steps.specs.Order.{IsShared}
+use Rattle.std.proofs.lemmas.Bool.{cases_lt, ne_eqb}
+use Rattle.std.proofs.lemmas.List.{take-append-drop, take_all}
 use Rattle.x_codes.specs.StateCode.{paths_code, paths_at, after_paths, paths_of, paths_rest, ReadsPaths}
 
 choice_small : (n : ℕ) → n < 4294967296 → choice_of n ≡ n
@@ -36,6 +40,48 @@ pub reads_state : (s : StateValue) → cursor_choice s.cursor < 4294967296 → R
 unfolding state_code state_of state_rest
 reads_state s h r = λ rest. let p = r rest in
     ((λ j. record { label = label_back s.label j; path = p.0 j; cursor = cursor_back s.cursor h j }), p.1)
+
+-- ---- a state after a path
+
+pub shared_is : (q r : List ℕ) (n : ℕ) → IsShared q r n → n ≡ shared_count q r
+unfolding shared_count
+shared_is [] r n i = let l = i.within in omega (arith, l)
+shared_is (x ∷ xs) [] n i = let l = i.within_other in omega (arith, l)
+shared_is (x ∷ xs) (y ∷ ys) zero i = rw (ne_eqb x y (i.differs (omega arith) (omega arith))) refl
+shared_is (x ∷ xs) (y ∷ ys) (suc n) i =
+    let same : x ≡ y = ap (λ (zs : List ℕ). get_or zs 0 0) i.same in
+    let rest : IsShared xs ys n = record {
+      within = let l = i.within in omega (arith, l);
+      within_other = let l = i.within_other in omega (arith, l);
+      same = ap (drop 1) i.same;
+      differs = λ l m. i.differs (omega (arith, l)) (omega (arith, m));
+    } in
+    rw (eq-eqb x y same) (ap suc (shared_is xs ys n rest))
+
+pub reads_after : (before : List ℕ) (s : StateValue) (n : ℕ) → IsShared before s.path n → ReadsState (state_below n s) → ReadsAfter before s
+unfolding after_code after_of after_rest
+reads_after before s n i r = λ rest.
+    let e = shared_is before s.path n i in
+    let p = r rest in
+    let whole : take n before ++ drop n s.path ≡ s.path = ap (λ xs. xs ++ drop n s.path) i.same ∙ take-append-drop n s.path in
+    rw (← e) (
+      (λ j. record { label = (p.0 j).label; path = (ap (λ (t : StateValue). take n before ++ t.path) p.0 ∙ whole) j; cursor = (p.0 j).cursor }),
+      p.1,
+    )
+
+pub after_is : (before : List ℕ) (s : StateValue) (n : ℕ) (below row mid new : List ℕ) → IsShared before s.path n → below ≡ drop n s.path
+    → mid ≡ row ++ n ∷ [] → new ≡ mid ++ state_code (record { label = s.label; path = below; cursor = s.cursor }) → new ≡ row ++ after_code before s
+unfolding after_code
+after_is before s n below row mid new i b e f =
+    rw (f, e, b, ← shared_is before s.path n i) (append_assoc row (n ∷ []) (state_code (state_below n s)))
+
+-- as many as there are, of so many
+pub take_most : (n m : ℕ) (xs : List ℕ) → (n ≤ length xs → m ≡ n) → (length xs ≤ n → m ≡ length xs) → take m xs ≡ take n xs
+take_most n m xs few all = step (cases_lt (length xs) n)
+  where
+    step : (length xs < n) ⊎ (n ≤ length xs) → take m xs ≡ take n xs
+    step (inl l) = let e = all (omega arith) in take_all m xs (omega (arith, e)) ∙ sym (take_all n xs (omega arith))
+    step (inr l) = ap (λ i. take i xs) (few l)
 
 -- ---- lists of lists
 

@@ -81,6 +81,33 @@ state_of ns = record {
 unfoldable pub state_rest : List ℕ → List ℕ
 state_rest ns = path_rest (later (later (later ns)))
 
+-- ---- a state after a path: how many first choices both have, and the state without them
+
+-- how many first choices two paths have in common
+unfoldable pub shared_count : List ℕ → List ℕ → ℕ
+shared_count (x ∷ xs) (y ∷ ys) = if x == y then suc (shared_count xs ys) else 0
+shared_count xs ys = 0
+
+-- a state without its first choices
+abbrev pub state_below : ℕ → StateValue → StateValue
+state_below n s = record { label = s.label; path = drop n s.path; cursor = s.cursor }
+
+-- its numbers after those of the path
+unfoldable pub after_code : List ℕ → StateValue → List ℕ
+after_code before s = shared_count before s.path ∷ state_code (state_below (shared_count before s.path) s)
+
+-- the state at the head of a row, after a path
+unfoldable pub after_of : List ℕ → List ℕ → StateValue
+after_of before ns = record {
+  label = (state_of (later ns)).label;
+  path = take (slice_index ns 0) before ++ (state_of (later ns)).path;
+  cursor = (state_of (later ns)).cursor;
+}
+
+-- what comes after it
+unfoldable pub after_rest : List ℕ → List ℕ
+after_rest ns = state_rest (later ns)
+
 -- ---- lists of lists of choices: how many there are, and then each
 
 -- how many lists there are, and then each as its code
@@ -116,6 +143,10 @@ ReadsPath path = (rest : List ℕ) → (path_of (path_code path ++ rest) ≡ pat
 -- so is a state
 abbrev pub ReadsState : StateValue → Type 0
 ReadsState s = (rest : List ℕ) → (state_of (state_code s ++ rest) ≡ s) × (state_rest (state_code s ++ rest) ≡ rest)
+
+-- so is a state after a path
+abbrev pub ReadsAfter : List ℕ → StateValue → Type 0
+ReadsAfter before s = (rest : List ℕ) → (after_of before (after_code before s ++ rest) ≡ s) × (after_rest (after_code before s ++ rest) ≡ rest)
 
 -- so are lists of choices
 abbrev pub ReadsPaths : List (List ℕ) → Type 0

@@ -2,7 +2,7 @@
 ghost use Rattle.std.specs.Prelude.{◌≡◌, ◌++◌, length, take, drop, map, IfOk, OnOk};
 ghost use Rattle.x_steps.specs.StateView.{state_value};
 ghost use Rattle.x_codes.specs.StateCode.{choice_of, label_of, cursor_of};
-ghost use Rattle.x_codes.specs.StateCode.{path_of, path_rest, paths_of, paths_rest, state_of, state_rest};
+ghost use Rattle.x_codes.specs.StateCode.{after_of, after_rest, path_of, path_rest, paths_of, paths_rest, state_of, state_rest};
 
 use cover_problem::Lists;
 use packed_rows::Reader;
@@ -119,6 +119,28 @@ pub fn read_state(alloc: Global, reader: &mut Reader<'_>) -> Result<State, Alloc
     })
 }
 
+/// Reads a state after a path.
+pub fn read_after(
+    alloc: Global,
+    reader: &mut Reader<'_>,
+    before: &[u32],
+) -> Result<State, AllocError>
+    ensures state { IfOk result (λ state. state_value state ≡ after_of before.now reader.old) }
+    ensures rest { OnOk result (reader.new ≡ after_rest reader.old) }
+{
+    let same = reader.number() as usize;
+    let below = read_state(alloc, reader)?;
+    // A row that was not put so may tell any number.
+    let (front, _) = before.split_at(same.min(before.len()));
+    let mut path = Vec::from_slice(alloc, front)?;
+    path.extend_from_slice(&below.path)?;
+    Ok(State {
+        label: below.label,
+        path,
+        cursor: below.cursor,
+    })
+}
+
 /// Reads over so many numbers, or over as many as there are.
 fn skip(reader: &mut Reader<'_>, count: u64)
     ensures { reader.new ≡ drop count reader.old }
@@ -149,6 +171,14 @@ pub fn skip_state(reader: &mut Reader<'_>)
     let _kind = reader.number();
     let _option = reader.number();
     skip_path(reader);
+}
+
+/// Reads over a state after a path, without memory.
+pub fn skip_after(reader: &mut Reader<'_>)
+    ensures { reader.new ≡ after_rest reader.old }
+{
+    let _same = reader.number();
+    skip_state(reader);
 }
 
 /// Reads over lists of choices, without memory; how many there are.

@@ -2,12 +2,12 @@
 ghost use Rattle.std.specs.Prelude.{◌≡◌, ◌++◌, OnOk, OnErr, map};
 ghost use Rattle.x_steps.specs.StateView.{state_value};
 ghost use Rattle.x_codes.specs.StateCode.{label_number, cursor_kind, cursor_choice, choice_of};
-ghost use Rattle.x_codes.specs.StateCode.{path_code, paths_code, state_code, ReadsPath, ReadsPaths, ReadsState};
+ghost use Rattle.x_codes.specs.StateCode.{after_code, path_code, paths_code, state_code, ReadsAfter, ReadsPath, ReadsPaths, ReadsState};
 
 use cover_problem::Lists;
 use packed_rows::Row;
 use std::alloc::AllocError;
-use x_steps::{Cursor, Label, State};
+use x_steps::{Cursor, Label, State, shared};
 
 /// Adds choices, or other numbers of 32 bits; where memory runs out, none.
 pub fn put_choices(row: &mut Row, choices: &[u32]) -> Result<(), AllocError>
@@ -81,16 +81,39 @@ fn cursor_choice(cursor: Cursor) -> u32
     }
 }
 
+/// Adds the parts of a state. Where memory runs out, some numbers may be there.
+fn put_parts(row: &mut Row, label: Label, cursor: Cursor, path: &[u32]) -> Result<(), AllocError>
+    ensures code { OnOk result
+        (row.new ≡ row.old ++ state_code (record { label = label; path = path.now; cursor = cursor })) }
+    ensures reads { OnOk result (ReadsState (record { label = label; path = path.now; cursor = cursor })) }
+{
+    // The choices go last: before them stand three numbers, the same in each state.
+    row.put(label_number(label))?;
+    row.put(cursor_kind(cursor))?;
+    let choice = cursor_choice(cursor);
+    row.put(choice as u64)?;
+    put_path(row, path)?;
+    Ok(())
+}
+
 /// Adds a state. Where memory runs out, some numbers may be there.
 pub fn put_state(row: &mut Row, state: &State) -> Result<(), AllocError>
     ensures code { OnOk result (row.new ≡ row.old ++ state_code (state_value state.now)) }
     ensures reads { OnOk result (ReadsState (state_value state.now)) }
 {
-    // The choices go last: before them stand three numbers, the same in each state.
-    row.put(label_number(state.label))?;
-    row.put(cursor_kind(state.cursor))?;
-    let choice = cursor_choice(state.cursor);
-    row.put(choice as u64)?;
-    put_path(row, &state.path)?;
+    put_parts(row, state.label, state.cursor, &state.path)?;
+    Ok(())
+}
+
+/// Adds a state after a path: how many first choices both have, and the state without them. Where memory runs out, some numbers may be
+/// there.
+pub fn put_after(row: &mut Row, before: &[u32], state: &State) -> Result<(), AllocError>
+    ensures code { OnOk result (row.new ≡ row.old ++ after_code before.now (state_value state.now)) }
+    ensures reads { OnOk result (ReadsAfter before.now (state_value state.now)) }
+{
+    let same = shared(before, &state.path);
+    let (_, below) = state.path.split_at(same);
+    row.put(same as u64)?;
+    put_parts(row, state.label, state.cursor, below)?;
     Ok(())
 }

@@ -10,7 +10,7 @@ pub mod MachineLemmas
 pub mod BackLemmas
 pub mod ListingLemmas
 pub mod ReadLemmas
-pub mod MarkedLemmas
+pub mod FlagLemmas
 pub mod ResumeLemmas
 pub mod OptionLemmas
 pub mod MovingLemmas

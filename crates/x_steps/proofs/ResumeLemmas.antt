@@ -22,10 +22,10 @@ use Rattle.x_steps.specs.declared.event.Event.{Event}
 use Rattle.x_steps.specs.StateValue.{StateValue, at, start}
 use Rattle.x_steps.specs.Steps.{Fits, IsOpen, item_after, remaining_after, cursor_of, covered_in, covered_at, next}
 use Rattle.x_steps.specs.Machine.{Keeps, Position, Goes}
-use Rattle.x_steps.specs.Marked.{AreMarksOf}
+use Rattle.x_steps.specs.Flags.{AreFlagsOf}
 use Rattle.x_steps.specs.Resume.{position, HasStep, IsDown}
 use Rattle.x_steps.proofs.Neighbours.{open_is, parted, split_last_push}
-use Rattle.x_steps.proofs.MarkedLemmas.{left_by_marks, option_within, marks_taken}
+use Rattle.x_steps.proofs.FlagLemmas.{left_by_flags, option_within, flags_taken}
 use Rattle.x_steps.proofs.MachineLemmas.{from_label}
 use Rattle.x_steps.proofs.BackLemmas.{valid_at_X2}
 
@@ -102,21 +102,21 @@ turned p s l k old new e f = rw e at f
 
 -- ---- down the path
 
-pub down_here : (p : ProblemValue) (path : List ℕ) (m : Position) (marks : List Bool) → IsDown p path m marks → IsDown m.problem m.state.path m marks
-down_here p path m marks d =
+pub down_here : (p : ProblemValue) (path : List ℕ) (m : Position) (flags : List Bool) → IsDown p path m flags → IsDown m.problem m.state.path m flags
+down_here p path m flags d =
     let e = d.here in
-    subst (λ v. IsDown v.problem v.state.path m marks) (sym e) d
+    subst (λ v. IsDown v.problem v.state.path m flags) (sym e) d
 
 -- the search has begun
-pub down_first : (p : ProblemValue) (old m : Position) (event : Event) (marks list : List Bool) (n : ℕ) → old ≡ position p start → Goes old m event → AreMarksOf marks n [] → n ≡ length p.names → list ≡ marks → IsDown m.problem [] m list
-down_first p old m event marks list n e g a size same =
+pub down_first : (p : ProblemValue) (old m : Position) (event : Event) (flags list : List Bool) (n : ℕ) → old ≡ position p start → Goes old m event → AreFlagsOf flags n [] → n ≡ length p.names → list ≡ flags → IsDown m.problem [] m list
+down_first p old m event flags list n e g a size same =
     let here : m ≡ position p (at X2 [] cursor.None) = began p old m event e g in
-    let first : IsDown p [] m list = record { here = here; marked = rw (covered_by_none p, same, ← size) a } in
+    let first : IsDown p [] m list = record { here = here; flagged = rw (covered_by_none p, same, ← size) a } in
     subst (λ q. IsDown q [] m list) (sym (ap (λ m. m.problem) here)) first
 
-pub down_more : (p : ProblemValue) (path : List ℕ) (o : ℕ) (m : Position) (marks : List Bool) → IsChoice p (covered_by p path) o → m ≡ position p (at X2 (path ++ o ∷ []) cursor.None)
-    → AreMarksOf marks (length p.names) (covered_by p path ++ option_at p o) → IsDown p (path ++ o ∷ []) m marks
-down_more p path o m marks h e a = record { here = e; marked = rw (covered_by_push p path o) (marks_taken p (covered_by p path) o marks (length p.names) h a) }
+pub down_more : (p : ProblemValue) (path : List ℕ) (o : ℕ) (m : Position) (flags : List Bool) → IsChoice p (covered_by p path) o → m ≡ position p (at X2 (path ++ o ∷ []) cursor.None)
+    → AreFlagsOf flags (length p.names) (covered_by p path ++ option_at p o) → IsDown p (path ++ o ∷ []) m flags
+down_more p path o m flags h e a = record { here = e; flagged = rw (covered_by_push p path o) (flags_taken p (covered_by p path) o flags (length p.names) h a) }
 
 -- ---- whether the path can go on
 
@@ -166,16 +166,16 @@ module _ (p : ProblemValue) (s : StateValue) (table_problem : ProblemValue) (cov
     pub known_choice : has (option_at p o) (choice table_problem covered) ≡ true
     known_choice = rw (k.same, stands_X2) (choice_has p (covered_by p s.path) o fits.1).item
 
-  module _ (o : ℕ) (some : 0 < o) (within : o ≤ length p.options) (marks : List Bool) (option : List ℕ) (is : option ≡ option_at p o) (marked : AreMarksOf marks (length p.names) (covered_by p s.path)) where
-    pub all_within : All (λ i. i < length marks) option
-    all_within = option_within p k.sound o some within marks (covered_by p s.path) option marked is
+  module _ (o : ℕ) (some : 0 < o) (within : o ≤ length p.options) (flags : List Bool) (option : List ℕ) (is : option ≡ option_at p o) (flagged : AreFlagsOf flags (length p.names) (covered_by p s.path)) where
+    pub all_within : All (λ i. i < length flags) option
+    all_within = option_within p k.sound o some within flags (covered_by p s.path) option flagged is
 
-    pub choice_X2 : (a : Bool) → a ≡ true → a ≡ nat_lt 0 (length (active table_problem covered)) → (item : ℕ) → item ≡ choice table_problem covered → (b : Bool) → b ≡ (has option item && not (list_any (λ i. get_or marks i false) option))
+    pub choice_X2 : (a : Bool) → a ≡ true → a ≡ nat_lt 0 (length (active table_problem covered)) → (item : ℕ) → item ≡ choice table_problem covered → (b : Bool) → b ≡ (has option item && not (list_any (λ i. get_or flags i false) option))
         → (IsTrue b → Fits p (at X5 s.path (At o))) × (Fits p (at X5 s.path (At o)) → IsTrue b)
     choice_X2 a e h item chosen b f =
         let now : item ≡ item_after p s.path = chosen_X2 item chosen in
         let left_is : b ≡ has (remaining p (covered_by p s.path) (item_after p s.path)) o =
-        f ∙ left_by_marks p k.sound o some within marks (covered_by p s.path) option item marked is ∙ ap (λ i. has (remaining p (covered_by p s.path) i) o) now in
+        f ∙ left_by_flags p k.sound o some within flags (covered_by p s.path) option item flagged is ∙ ap (λ i. has (remaining p (covered_by p s.path) i) o) now in
         let active = (active_X2 a h).0 e in
         (λ t. (valid_X2, record { active = active; left = sym left_is ∙ t }), λ g. left_is ∙ g.1.left)
 
@@ -189,11 +189,11 @@ no_choice b e h x = false≢true (sym e ∙ h.1 x)
 
 -- ---- the same, of the state inside the machine
 
-pub marked_in : (p : ProblemValue) (s : StateValue) (now : Position) (marks : List Bool) → position p s ≡ now → IsDown now.problem now.state.path now marks → AreMarksOf marks (length p.names) (covered_by p s.path)
-marked_in p s now marks e d = subst (λ v. AreMarksOf marks (length v.problem.names) (covered_by v.problem v.state.path)) (sym e) d.marked
+pub flagged_in : (p : ProblemValue) (s : StateValue) (now : Position) (flags : List Bool) → position p s ≡ now → IsDown now.problem now.state.path now flags → AreFlagsOf flags (length p.names) (covered_by p s.path)
+flagged_in p s now flags e d = subst (λ v. AreFlagsOf flags (length v.problem.names) (covered_by v.problem v.state.path)) (sym e) d.flagged
 
-pub down_label : (p : ProblemValue) (s : StateValue) (q : ProblemValue) (path : List ℕ) (now : Position) (marks : List Bool) → position p s ≡ now → IsDown q path now marks → s.label ≡ X2
-down_label p s q path now marks e d = ap (λ m. m.state.label) (e ∙ d.here)
+pub down_label : (p : ProblemValue) (s : StateValue) (q : ProblemValue) (path : List ℕ) (now : Position) (flags : List Bool) → position p s ≡ now → IsDown q path now flags → s.label ≡ X2
+down_label p s q path now flags e d = ap (λ m. m.state.label) (e ∙ d.here)
 
 pub active_open : (p : ProblemValue) (s : StateValue) (table_problem : ProblemValue) (covered : List ℕ) (room : ℕ) → Keeps p s table_problem covered room → (b : Bool) → b ≡ true → b ≡ nat_lt 0 (length (active table_problem covered))
     → 0 < length (active table_problem covered)
@@ -205,28 +205,28 @@ option_in p q s t now path o e f h =
     let same : p ≡ q = ap (λ m. m.problem) (e ∙ f) in
     let c = choice_has q (covered_by q path) o h.1 in rw same (c.some, c.within)
 
-pub marks_now : (p q : ProblemValue) (s t : StateValue) (marks : List Bool) (n : ℕ) (now : Position) (c option : List ℕ) (o : ℕ) → position p s ≡ now → now ≡ position q t → option ≡ option_at p o → AreMarksOf marks n (c ++ option)
-    → AreMarksOf marks n (c ++ option_at q o)
-marks_now p q s t marks n now c option o e f is a =
+pub flags_now : (p q : ProblemValue) (s t : StateValue) (flags : List Bool) (n : ℕ) (now : Position) (c option : List ℕ) (o : ℕ) → position p s ≡ now → now ≡ position q t → option ≡ option_at p o → AreFlagsOf flags n (c ++ option)
+    → AreFlagsOf flags n (c ++ option_at q o)
+flags_now p q s t flags n now c option o e f is a =
     let same : p ≡ q = ap (λ m. m.problem) (e ∙ f) in
     let whole : option ≡ option_at q o = is ∙ ap (λ r. option_at r o) same in rw (← whole) a
 
 -- ---- one choice after another
 
-pub not_down : (p : ProblemValue) (path : List ℕ) (k : ℕ) (m : Position) (marks : List Bool) → IsDown p (take k path) m marks → k < length path → (Fits m.problem (at X5 m.state.path (At (get_or path k 0))) → ⊥)
+pub not_down : (p : ProblemValue) (path : List ℕ) (k : ℕ) (m : Position) (flags : List Bool) → IsDown p (take k path) m flags → k < length path → (Fits m.problem (at X5 m.state.path (At (get_or path k 0))) → ⊥)
     → IsValid p path → ⊥
 unfolding IsValid covered_by
-not_down p path k m marks d l never v =
+not_down p path k m flags d l never v =
     let parts = valid_split p [] (take k path) (get_or path k 0 ∷ drop (suc k) path) (rw (parted path k l) at v) in
     let e = d.here in
     never (subst (λ v. Fits v.problem (at X5 v.state.path (At (get_or path k 0)))) (sym e) (parts.0, parts.1.0))
 
-pub down_next : (p : ProblemValue) (path : List ℕ) (k : ℕ) (old new : Position) (marks new_marks : List Bool) → IsDown p (take k path) old marks → k < length path
-    → IsDown old.problem (old.state.path ++ get_or path k 0 ∷ []) new new_marks → IsDown p (take (k + 1) path) new new_marks
-down_next p path k old new marks new_marks d l n =
+pub down_next : (p : ProblemValue) (path : List ℕ) (k : ℕ) (old new : Position) (flags new_flags : List Bool) → IsDown p (take k path) old flags → k < length path
+    → IsDown old.problem (old.state.path ++ get_or path k 0 ∷ []) new new_flags → IsDown p (take (k + 1) path) new new_flags
+down_next p path k old new flags new_flags d l n =
     let e = d.here in
-    let f : IsDown p (take k path ++ get_or path k 0 ∷ []) new new_marks = subst (λ v. IsDown v.problem (v.state.path ++ get_or path k 0 ∷ []) new new_marks) e n in
+    let f : IsDown p (take k path ++ get_or path k 0 ∷ []) new new_flags = subst (λ v. IsDown v.problem (v.state.path ++ get_or path k 0 ∷ []) new new_flags) e n in
     rw (add-one, take-suc path k 0 l) f
 
-pub down_all : (p : ProblemValue) (path : List ℕ) (k : ℕ) (m : Position) (marks : List Bool) → IsDown p (take k path) m marks → length path ≤ k → IsDown p path m marks
-down_all p path k m marks d l = subst (λ q. IsDown p q m marks) (take_all k path l) d
+pub down_all : (p : ProblemValue) (path : List ℕ) (k : ℕ) (m : Position) (flags : List Bool) → IsDown p (take k path) m flags → length path ≤ k → IsDown p path m flags
+down_all p path k m flags d l = subst (λ q. IsDown p q m flags) (take_all k path l) d

@@ -11,7 +11,7 @@ use Rattle.cover_problem.proofs.NumberLemmas.{numbers_push}
 use Rattle.cover_problem.proofs.CoveredLemmas.{covered_item}
 use Rattle.cover_problem.proofs.RemainingLemmas.{list_uncovered}
 use Rattle.x_steps.specs.Machine.{secondary}
-use Rattle.x_steps.specs.Marked.{AreMarksOf}
+use Rattle.x_steps.specs.Flags.{AreFlagsOf}
 
 -- of the items up to `before` those that are secondary and not covered have a row each
 pub record ListsSecond (p : ProblemValue) (c : List ℕ) (before : ℕ) (rows : List (ℕ × List ℕ)) : Type 0 where
@@ -54,13 +54,13 @@ module _ (p : ProblemValue) (c : List ℕ) where
           rw (l.rows_are, options, grown true (not_from_false (has c (before + 1)) h)) (sym (map-append (λ (i : ℕ). (i, remaining p c i)) (filter (λ i. not (has c i)) (numbers l.passed (p.primary + 1))) ((before + 1) ∷ [])));
     }
 
-    -- the same, by the item's mark
-    module _ (b : Bool) (mark : b ≡ has c (before + 1)) where
-      pub second_marked : b ≡ true → ListsSecond p c (before + 1) rows
-      second_marked e = second_covered (sym mark ∙ e)
+    -- the same, by the item's flag
+    module _ (b : Bool) (flag : b ≡ has c (before + 1)) where
+      pub second_flagged : b ≡ true → ListsSecond p c (before + 1) rows
+      second_flagged e = second_covered (sym flag ∙ e)
 
-      pub second_unmarked : b ≡ false → (table_problem : ProblemValue) → table_problem ≡ p → (found : List ℕ) → found ≡ list_of table_problem c (before + 1) → ListsSecond p c (before + 1) (rows ++ (before + 1, found) ∷ [])
-      second_unmarked e table_problem same found f = second_more (sym mark ∙ e) found (f ∙ ap (λ q. list_of q c (before + 1)) same)
+      pub second_unflagged : b ≡ false → (table_problem : ProblemValue) → table_problem ≡ p → (found : List ℕ) → found ≡ list_of table_problem c (before + 1) → ListsSecond p c (before + 1) (rows ++ (before + 1, found) ∷ [])
+      second_unflagged e table_problem same found f = second_more (sym flag ∙ e) found (f ∙ ap (λ q. list_of q c (before + 1)) same)
 
   pub second_all : (before : ℕ) (rows : List (ℕ × List ℕ)) → ListsSecond p c before rows → before ≡ length p.names → rows ≡ map (λ i. (i, remaining p c i)) (secondary p c)
   unfolding secondary
@@ -76,6 +76,6 @@ covered_within table_problem p c list n same size a e k d l =
     let names : length table_problem.names ≡ n = ap (λ (q : ProblemValue). length q.names) same ∙ sym size in
     rw (e, ← names) within
 
--- what a mark says
-pub mark_is : (marks slice : List Bool) (list c : List ℕ) (n item : ℕ) (b : Bool) → AreMarksOf marks n list → list ≡ c → slice ≡ marks → b ≡ get_or slice item false → item ≤ n → b ≡ has c item
-mark_is marks slice list c n item b a e f g l = g ∙ ap (λ m. get_or m item false) f ∙ a.marked item l ∙ ap (λ c. has c item) e
+-- what a flag says
+pub flag_is : (flags slice : List Bool) (list c : List ℕ) (n item : ℕ) (b : Bool) → AreFlagsOf flags n list → list ≡ c → slice ≡ flags → b ≡ get_or slice item false → item ≤ n → b ≡ has c item
+flag_is flags slice list c n item b a e f g l = g ∙ ap (λ m. get_or m item false) f ∙ a.flagged item l ∙ ap (λ c. has c item) e

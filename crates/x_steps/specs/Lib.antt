@@ -11,6 +11,6 @@ pub mod Covers
 pub mod Rank
 pub mod Machine
 pub mod Answers
-pub mod Marked
+pub mod Flags
 pub mod Faults
 pub mod Resume

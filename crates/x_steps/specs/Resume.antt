@@ -10,7 +10,7 @@ use Rattle.x_steps.specs.declared.state.Cursor.TheVariants.{None, Past}
 use Rattle.x_steps.specs.StateValue.{StateValue, at}
 use Rattle.x_steps.specs.Steps.{Fits, remaining_after, cursor_of}
 use Rattle.x_steps.specs.Machine.{Position}
-use Rattle.x_steps.specs.Marked.{AreMarksOf}
+use Rattle.x_steps.specs.Flags.{AreFlagsOf}
 
 -- a problem with a state
 abbrev pub position : ProblemValue → StateValue → Position
@@ -32,14 +32,14 @@ HasStep m label cursor = Fits m.problem (at label m.state.path cursor)
 abbrev pub opened : ProblemValue → List ℕ → StateValue
 opened p path = at X5 path (cursor_of (above 0 (remaining_after p path)))
 
--- the machine is at X2 with this path, and what the path covers is marked
-pub record IsDown (p : ProblemValue) (path : List ℕ) (m : Position) (marks : List Bool) : Type 0 where
+-- the machine is at X2 with this path, and what the path covers is flagged
+pub record IsDown (p : ProblemValue) (path : List ℕ) (m : Position) (flags : List Bool) : Type 0 where
   pub here : m ≡ position p (at X2 path None)
-  pub marked : AreMarksOf marks (length p.names) (covered_by p path)
+  pub flagged : AreFlagsOf flags (length p.names) (covered_by p path)
 
 -- the machine went down by this option, which is now the path's last
 abbrev pub GoesDown : Position → ℕ → Position → List Bool → Type 0
-GoesDown old option new marks = IsDown old.problem (old.state.path ++ option ∷ []) new marks
+GoesDown old option new flags = IsDown old.problem (old.state.path ++ option ∷ []) new flags
 
 -- the machine stands at X2 with one choice more
 abbrev pub longer_by : Position → ℕ → Position

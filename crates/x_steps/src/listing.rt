@@ -4,7 +4,7 @@ ghost use Rattle.cover_problem.specs.Problem.{IsProblem};
 ghost use Rattle.x_steps.specs.Answers.{ReturnsOptions, ReturnsRows, ReturnsRemaining};
 ghost use Rattle.x_steps.specs.Machine.{second_items};
 
-use crate::marks::{is_marked, marks_of};
+use crate::flags::{flags_of, is_flagged};
 use cover_problem::{Problem, Table};
 use std::alloc::{AllocError, Global};
 
@@ -47,13 +47,13 @@ pub fn secondary_items<T: Table>(
     requires { T.problem_value table.now ≡ problem.now }
     ensures { ReturnsRows result (second_items problem.now (T.covered_list table.now)) }
 {
-    // Marks, so that the list of covered items isn't searched for each secondary one.
-    let marks = marks_of(alloc, problem.items(), table.covered())?;
+    // Flags, so that the list of covered items isn't searched for each secondary one.
+    let flags = flags_of(alloc, problem.items(), table.covered())?;
     let mut rows = Vec::new(alloc);
     // A table goes through the active items only, which are primary: these are gone through by number.
     for before in problem.primary()..problem.items() {
         let item = before + 1;
-        if is_marked(&marks, item) {
+        if is_flagged(&flags, item) {
             continue;
         }
         rows.push((item, options_of(alloc, table, item)?))?;

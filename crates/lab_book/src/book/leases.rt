@@ -10,10 +10,10 @@ use crate::book::Book;
 use crate::lease::{Lease, Leased};
 use crate::status::Status;
 use crate::tile::Tile;
-use lab_history::{BookFault, Call, Entry, Grant, Mark, Path, Reply, Scribe, Unnoted};
+use lab_history::{BookFault, Call, Entry, Grant, Path, Reply, Scribe, Unnoted};
 use std::alloc::{AllocError, Global};
 use x_branches::{Branch, Cut};
-use x_steps::State;
+use x_steps::Mark;
 
 /// The choices of a cut, if there is one.
 fn path_of(alloc: Global, cut: &Option<Cut<'_>>) -> Result<Option<Path>, AllocError>
@@ -26,12 +26,12 @@ fn path_of(alloc: Global, cut: &Option<Cut<'_>>) -> Result<Option<Path>, AllocEr
 }
 
 /// What a worker is given of a tile: its branch, and its mark.
-fn copied<'p>(tile: &Tile<'p>) -> Result<(Branch<'p>, State), AllocError>
+fn copied<'p>(tile: &Tile<'p>) -> Result<(Branch<'p>, Mark), AllocError>
     ensures branch { IfOk result (λ c. c.0 ≡ tile.now.branch) }
-    ensures mark { IfOk result (λ c. state_value c.1 ≡ mark_of tile.now) }
+    ensures mark { IfOk result (λ c. c.1 ≡ mark_of tile.now) }
 {
     let branch = tile.branch().copy()?;
-    let mark = tile.mark().copy()?;
+    let mark = tile.own_mark().copy()?;
     Ok((branch, mark))
 }
 
@@ -45,7 +45,7 @@ impl<'p> Book<'p> {
         let alloc = *tile.mark().path.allocator();
         let lo = path_of(alloc, tile.lo())?;
         let hi = path_of(alloc, tile.hi())?;
-        let mark = Mark::of(tile.mark())?;
+        let mark = tile.own_mark().copy()?;
         let id = tile.id();
         // That of the entry which comes next and holds this reply.
         let index = self.history.len();

@@ -10,18 +10,18 @@ ghost use Rattle.lab_book.specs.Calls.{Made, Posts, PostRefused, Doubted, posted
 use crate::book::{Book, out_of_memory};
 use crate::lease::{Lease, Posted};
 use crate::tiles::stale;
-use lab_history::{BookFault, Call, Entry, Grant, Mark, Reply, Scribe, Unnoted};
+use lab_history::{BookFault, Call, Entry, Grant, Reply, Scribe, Unnoted};
 use std::alloc::AllocError;
 use std::cmp::Ordering;
 use x_branches::{Stretch, run_order};
-use x_steps::Refused;
+use x_steps::{Mark, Refused};
 
 /// A post, as the history keeps it.
 fn post_call(lease: Grant, stretch: &Stretch<'_>, same: bool) -> Result<Call, AllocError>
     ensures { IfOk result (λ call. call ≡ calls.Post lease stretch.now.from stretch.now.to same) }
 {
-    let from = Mark::of(stretch.from())?;
-    let to = Mark::of(stretch.to())?;
+    let from = stretch.from_mark().copy()?;
+    let to = stretch.to_mark().copy()?;
     Ok(Call::Post {
         lease,
         from,
@@ -99,6 +99,7 @@ impl<'p> Book<'p> {
     {
         // For the proof: its states are of the problem's run, so the tile stays one.
         stretch.is_sound();
+        self.count_calls();
         // A post changes neither, so the entry can be made whole before the tile changes.
         let stop = self.tiles.tile(i).stop();
         let waiting = self.tiles.waiting();

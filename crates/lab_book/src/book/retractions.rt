@@ -10,18 +10,18 @@ ghost use Rattle.lab_book.specs.Calls.{ScribeNotes, ScribeNotesFault, ScribeNote
 
 use crate::book::Book;
 use crate::lease::Lease;
-use lab_history::{BookFault, Call, Entry, Grant, Mark, Reply, Scribe, Unnoted};
+use lab_history::{BookFault, Call, Entry, Grant, Reply, Scribe, Unnoted};
 use std::alloc::AllocError;
 use x_branches::Stretch;
-use x_steps::State;
+use x_steps::{Mark, State};
 
 /// The two states of a stretch, as the history keeps them.
 fn ends_of(stretch: &Stretch<'_>) -> Result<(Mark, Mark), AllocError>
     ensures from { IfOk result (λ marks. marks.0 ≡ stretch.now.from) }
     ensures to { IfOk result (λ marks. marks.1 ≡ stretch.now.to) }
 {
-    let from = Mark::of(stretch.from())?;
-    let to = Mark::of(stretch.to())?;
+    let from = stretch.from_mark().copy()?;
+    let to = stretch.to_mark().copy()?;
     Ok((from, to))
 }
 

@@ -14,10 +14,10 @@ impl<'p> Tile<'p> {
         ensures { IfOk result (λ tile. tile ≡ ended_tile cut.now) }
     {
         let hi = cut.copy()?;
-        // Three of one state: `part` gives the first to the head as its end, the tail keeps two as its marks.
+        // One state, shared by three: `part` gives the first to the head as its end, the tail keeps two as its marks.
         let end = cut_state(alloc, cut)?;
-        let first = cut_state(alloc, cut)?;
-        let mark = cut_state(alloc, cut)?;
+        let first = end.copy()?;
+        let mark = end.copy()?;
         Tile::of(
             alloc,
             Parts {

@@ -1,7 +1,7 @@
 //! Entries made of their numbers.
 ghost use Rattle.std.specs.Prelude.{◌≡◌, ℕ, List, IfOk, OnOk};
 ghost use Rattle.cover_problem.specs.Answers.{Returns};
-ghost use Rattle.x_codes.specs.StateCode.{later, path_rest, state_of, state_rest};
+ghost use Rattle.x_codes.specs.StateCode.{later, after_rest, path_rest, state_of, state_rest};
 ghost use Rattle.lab_history.specs.EntryCode.{worker_of, cut_of, cut_rest, retracted_read};
 ghost use Rattle.lab_history.specs.EntryCode.{grant_of, grant_rest, fault_of, fault_with, call_of, call_rest, call_with, call_rest_with};
 ghost use Rattle.lab_history.specs.EntryCode.{post_read, split_read, leased_read, reply_of};
@@ -12,10 +12,11 @@ use crate::entry::{Call, Entry, Reply};
 use crate::fault::BookFault;
 use crate::grant::Grant;
 use crate::kind::CallKind;
-use crate::mark::{Mark, Path};
+use crate::path::Path;
 use packed_rows::Reader;
 use std::alloc::{AllocError, Global};
-use x_codes::{read_path, read_state};
+use x_codes::{read_after, read_path, read_state};
+use x_steps::Mark;
 
 /// A worker.
 fn worker(n: u64) -> u8
@@ -31,7 +32,7 @@ fn read_mark(alloc: Global, reader: &mut Reader<'_>) -> Result<Mark, AllocError>
     ensures rest { OnOk result (reader.new ≡ state_rest reader.old) }
 {
     let state = read_state(alloc, reader)?;
-    Ok(Mark::from(state))
+    Mark::from(state)
 }
 
 /// Reads the choices of a cut, if there is one.
@@ -93,12 +94,13 @@ fn read_fault(alloc: Global, reader: &mut Reader<'_>) -> Result<BookFault, Alloc
 /// Reads a post.
 fn read_post(alloc: Global, reader: &mut Reader<'_>) -> Result<Call, AllocError>
     ensures call { IfOk result (λ call. call ≡ post_read reader.old) }
-    ensures rest { OnOk result (reader.new ≡ state_rest (state_rest (grant_rest (later reader.old)))) }
+    ensures rest { OnOk result (reader.new ≡ after_rest (state_rest (grant_rest (later reader.old)))) }
 {
     let same = reader.number() != 0;
     let lease = read_grant(reader);
     let from = read_mark(alloc, reader)?;
-    let to = read_mark(alloc, reader)?;
+    let to = read_after(alloc, reader, &from.state().path)?;
+    let to = Mark::from(to)?;
     Ok(Call::Post {
         lease,
         from,

@@ -6,10 +6,11 @@ ghost use Rattle.lab_history.specs.EntryCode.{bool_code, ReadsCut, ReadsGrant, R
 use crate::entry::{Call, Entry, Reply};
 use crate::fault::BookFault;
 use crate::grant::Grant;
-use crate::mark::{Mark, Path};
+use crate::path::Path;
 use packed_rows::Row;
 use std::alloc::AllocError;
-use x_codes::{put_path, put_state};
+use x_codes::{put_after, put_path, put_state};
+use x_steps::Mark;
 
 /// Adds the choices of a cut.
 fn put_some(row: &mut Row, path: &Path) -> Result<(), AllocError>
@@ -123,7 +124,7 @@ fn put_post(
     row.put(flag(same))?;
     put_grant(row, lease)?;
     put_state(row, from.state())?;
-    put_state(row, to.state())?;
+    put_after(row, &from.state().path, to.state())?;
     Ok(())
 }
 

@@ -3,9 +3,9 @@ ghost use Rattle.std.specs.Prelude.{◌<◌, length};
 
 use crate::asked::{Asked, is_so_in_small};
 use crate::books::acts::{Act, make};
-use lab_book::{Book, BookFault, Call, CallKind, Entries, Entry, Grant, Mark, Path, Reply};
+use lab_book::{Book, BookFault, Call, CallKind, Entries, Entry, Grant, Path, Reply};
 use std::alloc::Global;
-use x_steps::{Cursor, Label};
+use x_steps::{Cursor, Label, Mark};
 
 /// The run is split at the cut 4, both parts are posted to, and a post comes twice.
 static ACTS: [Act; 6] = [

@@ -18,7 +18,7 @@ use crate::stretch::Stretch;
 use cover_problem::{Lists, Table};
 use std::alloc::{AllocError, Global};
 use std::mem;
-use x_steps::{Refused, State};
+use x_steps::{Mark, Refused};
 
 /// Whether the last of the first so many counts is 0.
 fn is_zero_before(counts: &[u32], count: usize) -> bool
@@ -47,16 +47,6 @@ fn trimmed(alloc: Global, counts: &[u32]) -> Result<Vec<u32>, AllocError>
 {
     let (front, _) = counts.split_at(counted(counts));
     Vec::from_slice(alloc, front)
-}
-
-/// Two copies of a state.
-fn twice(state: &State) -> Result<(State, State), AllocError>
-    ensures first { IfOk result (λ two. state_value two.0 ≡ state_value state.now) }
-    ensures second { IfOk result (λ two. state_value two.1 ≡ state_value state.now) }
-{
-    let first = state.copy()?;
-    let second = state.copy()?;
-    Ok((first, second))
 }
 
 /// Copies of the visits, and of the counts up to the last above 0.
@@ -97,7 +87,8 @@ impl<'p, T: Table> Runner<'p, T> {
     {
         let state = self.machine.state();
         // All memory is asked for before the first change.
-        let (to, mark) = twice(state)?;
+        let to = Mark::of(state)?;
+        let mark = to.copy()?;
         // Copies go out: so the runner keeps its room, for the steps to come.
         let (visits, levels) = copied(*state.path.allocator(), &self.visits, &self.counts)?;
         let steps = self.steps;
@@ -139,7 +130,7 @@ impl<'p, T: Table> Runner<'p, T> {
                 given: branch,
             });
         }
-        let Ok(mark) = self.machine.state().copy() else {
+        let Ok(mark) = Mark::of(self.machine.state()) else {
             return Err(Refused {
                 fault: RunnerFault::OutOfMemory,
                 given: branch,
@@ -152,13 +143,13 @@ impl<'p, T: Table> Runner<'p, T> {
 
     /// Goes to a state of a branch and begins the branch there, with the mark at that state; what is unposted is let go. Takes no
     /// memory and compares no problems: that a search can start there is known. What is covered at both states stays covered.
-    pub fn move_to(&mut self, branch: Branch<'p>, mark: State)
-        requires { CanStart self.old.problem branch (state_value mark) }
-        ensures { self.new ≡ runner_at self.old.problem branch.entry (state_value mark) }
+    pub fn move_to(&mut self, branch: Branch<'p>, mark: Mark)
+        requires { CanStart self.old.problem branch mark }
+        ensures { self.new ≡ runner_at self.old.problem branch.entry mark }
     {
         // For the proof alone: the search has the ends of the branch.
         branch.is_sound();
-        self.machine.move_to(&mark);
+        self.machine.move_to(mark.state());
         let _ = mem::replace(&mut self.branch, branch);
         let _ = mem::replace(&mut self.mark, mark);
         self.steps = 0;

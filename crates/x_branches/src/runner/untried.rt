@@ -364,17 +364,18 @@ impl<'p, T: Table> Runner<'p, T> {
         ensures can_end { IfOk result (CanShorten self.now) }
         ensures refused { IfErr result (CutRefused self.now level option) }
     {
-        let Ok(mut path) = Vec::from_slice(
-            *self.machine.state().path.allocator(),
-            self.front(level),
-        ) else {
+        let alloc = *self.machine.state().path.allocator();
+        let Ok(mut path) = Vec::from_slice(alloc, self.front(level)) else {
             return Err(RunnerFault::OutOfMemory);
         };
         let Ok(()) = path.push(option) else {
             return Err(RunnerFault::OutOfMemory);
         };
         // It is known that the search can take the path, so it isn't walked down.
-        Ok(Cut::of_path(self.machine.problem(), path))
+        match Cut::of_path(alloc, self.machine.problem(), &path) {
+            Ok(cut) => Ok(cut),
+            Err(_) => Err(RunnerFault::OutOfMemory),
+        }
     }
 
     /// Whether the branch can be ended at a cut.

@@ -8,13 +8,13 @@ ghost use Rattle.x_steps.specs.Answers.{IfRefused};
 ghost use Rattle.x_steps.specs.StateView.{state_value, IsState};
 ghost use Rattle.x_steps.specs.Steps.{IsOpen};
 ghost use Rattle.x_steps.specs.Machine.{IsAt, covered_items, item_to_choose};
-ghost use Rattle.x_steps.specs.Marked.{none_marked};
+ghost use Rattle.x_steps.specs.Flags.{none_flagged};
 ghost use Rattle.x_steps.specs.Resume.{position, opened, standing_at, at_step, HasStep, IsDown, GoesDown};
 
 use crate::covering::has_active;
 use crate::fault::AtFault;
+use crate::flags::{any_flagged, flag_all, no_flags};
 use crate::machine::Machine;
-use crate::marks::{any_marked, mark_all, no_marks};
 use crate::state::{Cursor, Label, State};
 use cover_problem::{Problem, Refused, Table};
 use std::alloc::Global;
@@ -27,13 +27,13 @@ fn has_option(problem: &Problem, option: u32) -> bool
     0 < option && option <= problem.options()
 }
 
-/// Whether the option has the item, and none that is marked.
-fn is_free(option: &[u32], item: u32, marks: &[bool]) -> bool
-    requires { All (λ i. i < length marks.now) option.now }
-    ensures { result ≡ (has option.now item && none_marked marks.now option.now) }
+/// Whether the option has the item, and none that is flagged.
+fn is_free(option: &[u32], item: u32, flags: &[bool]) -> bool
+    requires { All (λ i. i < length flags.now) option.now }
+    ensures { result ≡ (has option.now item && none_flagged flags.now option.now) }
 {
     // An option of the item is still not left for it when another of its items is covered.
-    option.contains(&item) && !any_marked(marks, option)
+    option.contains(&item) && !any_flagged(flags, option)
 }
 
 impl<'p, T: Table> Machine<'p, T> {
@@ -54,8 +54,8 @@ impl<'p, T: Table> Machine<'p, T> {
         ensures covered_back { IfErr result (λ r. T.covered_list r.given ≡ []) }
     {
         // Before the machine: when out of memory here, nothing has to be taken apart.
-        let mut marks = match no_marks(alloc, problem.items()) {
-            Ok(marks) => marks,
+        let mut flags = match no_flags(alloc, problem.items()) {
+            Ok(flags) => flags,
             Err(_) => {
                 return Err(Refused {
                     fault: AtFault::OutOfMemory,
@@ -73,7 +73,7 @@ impl<'p, T: Table> Machine<'p, T> {
             }
         };
         machine.begin();
-        if machine.reach(state, &mut marks) {
+        if machine.reach(state, &mut flags) {
             Ok(machine)
         } else {
             Err(Refused {
@@ -85,28 +85,28 @@ impl<'p, T: Table> Machine<'p, T> {
     }
 
     /// Goes to the state, if the search has it.
-    fn reach(&mut self, state: &State, marks: &mut [bool]) -> bool
-        requires { IsDown self.old.problem [] self.old marks.old }
+    fn reach(&mut self, state: &State, flags: &mut [bool]) -> bool
+        requires { IsDown self.old.problem [] self.old flags.old }
         ensures there { IsTrue result → self.new ≡ standing_at self.old (state_value state.now) }
         ensures fits { IsTrue result → IsState self.old.problem state.now }
         ensures unfit { result ≡ false → IsState self.old.problem state.now → ⊥ }
         ensures problem { self.new.problem ≡ self.old.problem }
     {
-        if !self.follow(&state.path, marks) {
+        if !self.follow(&state.path, flags) {
             return false;
         }
-        self.settle(state.label, state.cursor, marks)
+        self.settle(state.label, state.cursor, flags)
     }
 
     /// Takes the choices of the path one by one; false where one of them is none.
-    fn follow(&mut self, path: &[u32], marks: &mut [bool]) -> bool
-        requires { IsDown self.old.problem [] self.old marks.old }
-        ensures down { IsTrue result → IsDown self.old.problem path.now self.new marks.new }
+    fn follow(&mut self, path: &[u32], flags: &mut [bool]) -> bool
+        requires { IsDown self.old.problem [] self.old flags.old }
+        ensures down { IsTrue result → IsDown self.old.problem path.now self.new flags.new }
         ensures unfit { result ≡ false → IsValid self.old.problem path.now → ⊥ }
         ensures problem { self.new.problem ≡ self.old.problem }
     {
         for option in path {
-            if !self.descend(*option, marks) {
+            if !self.descend(*option, flags) {
                 return false;
             }
         }
@@ -114,25 +114,25 @@ impl<'p, T: Table> Machine<'p, T> {
     }
 
     /// Takes the option, if it is left for the item that is chosen.
-    fn descend(&mut self, option: u32, marks: &mut [bool]) -> bool
-        requires { IsDown self.old.problem self.old.state.path self.old marks.old }
-        ensures down { IsTrue result → GoesDown self.old option self.new marks.new }
+    fn descend(&mut self, option: u32, flags: &mut [bool]) -> bool
+        requires { IsDown self.old.problem self.old.state.path self.old flags.old }
+        ensures down { IsTrue result → GoesDown self.old option self.new flags.new }
         ensures unfit { result ≡ false → HasStep self.old Label.X5 (Cursor.At option) → ⊥ }
         ensures problem { self.new.problem ≡ self.old.problem }
     {
-        let Some(item) = self.item_for(option, marks) else {
+        let Some(item) = self.item_for(option, flags) else {
             return false;
         };
         self.open_for(item, option);
         self.take(option);
-        // The marks follow the table: one look at each item of an option tells whether it is free.
-        mark_all(marks, self.problem.option(option));
+        // The flags follow the table: one look at each item of an option tells whether it is free.
+        flag_all(flags, self.problem.option(option));
         true
     }
 
     /// The item that is chosen, where the path can go on with the option: it is left for that item.
-    fn item_for(&self, option: u32, marks: &[bool]) -> Option<u32>
-        requires { IsDown self.now.problem self.now.state.path self.now marks.now }
+    fn item_for(&self, option: u32, flags: &[bool]) -> Option<u32>
+        requires { IsDown self.now.problem self.now.state.path self.now flags.now }
         ensures item { IfSome result (λ item. item ≡ item_to_choose self.now) }
         ensures choice { OnSome result (HasStep self.now Label.X5 (Cursor.At option)) }
         ensures none { result ≡ None → HasStep self.now Label.X5 (Cursor.At option) → ⊥ }
@@ -145,7 +145,7 @@ impl<'p, T: Table> Machine<'p, T> {
             return None;
         }
         let item = self.table.choose();
-        if is_free(self.problem.option(option), item, marks) {
+        if is_free(self.problem.option(option), item, flags) {
             Some(item)
         } else {
             None
@@ -153,11 +153,11 @@ impl<'p, T: Table> Machine<'p, T> {
     }
 
     /// Whether the path can go on with the option.
-    fn is_choice(&self, option: u32, marks: &[bool]) -> bool
-        requires { IsDown self.now.problem self.now.state.path self.now marks.now }
+    fn is_choice(&self, option: u32, flags: &[bool]) -> bool
+        requires { IsDown self.now.problem self.now.state.path self.now flags.now }
         ensures { IsTrue result ↔ HasStep self.now Label.X5 (Cursor.At option) }
     {
-        self.item_for(option, marks).is_some()
+        self.item_for(option, flags).is_some()
     }
 
     /// Whether an item is active.
@@ -169,15 +169,15 @@ impl<'p, T: Table> Machine<'p, T> {
     }
 
     /// Goes from X2 to the step, if the search stands there with this path.
-    fn settle(&mut self, label: Label, cursor: Cursor, marks: &[bool]) -> bool
-        requires { IsDown self.old.problem self.old.state.path self.old marks.now }
+    fn settle(&mut self, label: Label, cursor: Cursor, flags: &[bool]) -> bool
+        requires { IsDown self.old.problem self.old.state.path self.old flags.now }
         ensures there { IsTrue result → self.new ≡ at_step self.old label cursor }
         ensures fits { IsTrue result → HasStep self.old label cursor }
         ensures unfit { result ≡ false → HasStep self.old label cursor → ⊥ }
         ensures problem { self.new.problem ≡ self.old.problem }
     {
         // All is asked before the first step, so a step that is refused has covered nothing.
-        if !self.would_fit(label, cursor, marks) {
+        if !self.would_fit(label, cursor, flags) {
             return false;
         }
         self.go_to(label, cursor);
@@ -185,8 +185,8 @@ impl<'p, T: Table> Machine<'p, T> {
     }
 
     /// Whether the search stands at the step with this path.
-    fn would_fit(&self, label: Label, cursor: Cursor, marks: &[bool]) -> bool
-        requires { IsDown self.now.problem self.now.state.path self.now marks.now }
+    fn would_fit(&self, label: Label, cursor: Cursor, flags: &[bool]) -> bool
+        requires { IsDown self.now.problem self.now.state.path self.now flags.now }
         ensures { IsTrue result ↔ HasStep self.now label cursor }
     {
         match (label, cursor) {
@@ -194,9 +194,9 @@ impl<'p, T: Table> Machine<'p, T> {
             (Label::X2, Cursor::None) => true,
             (Label::X3, Cursor::None) => self.is_open(),
             (Label::X4, Cursor::None) => self.is_open(),
-            (Label::X5, Cursor::At(option)) => self.is_choice(option, marks),
+            (Label::X5, Cursor::At(option)) => self.is_choice(option, flags),
             (Label::X5, Cursor::Past) => self.is_open(),
-            (Label::X6, Cursor::At(option)) => self.is_choice(option, marks),
+            (Label::X6, Cursor::At(option)) => self.is_choice(option, flags),
             (Label::X7, Cursor::None) => self.is_open(),
             // Open or not: X8 comes after X7 and after a visit.
             (Label::X8, Cursor::None) => true,

@@ -1,16 +1,12 @@
-use Rattle.std.proofs.Common.{◌∙◌, List, ap, subst}
-use Rattle.std.proofs.lemmas.List.{take_all}
-use Rattle.lab_book.specs.Tile.{TileValue}
+use Rattle.std.proofs.Common.{◌∙◌, ap, subst}
 use Rattle.lab_book.specs.Book.{BookValue, IsBook}
-use Rattle.lab_book.proofs.SumLemmas.{AreStepsOf, closed_steps}
+use Rattle.lab_book.specs.Posted.{posted_steps}
+use Rattle.lab_book.proofs.SumLemmas.{closed_steps}
 use Rattle.lab_book.proofs.book.Book.steps.Goals as goal
 
 pub returns-clause-whole : goal.returns-clause-whole
 returns-clause-whole c =
-    let tiles = c.list-tile-items.ensures.tiles ∙ ap (λ (b : BookValue). b.tiles) c.self.view_is in
-    let past = rw tiles at c.loop-tile-test.false in
-    let all = subst (λ (ts : List TileValue). AreStepsOf ts c.loop-tile.steps) (take_all c.loop-tile.tile-index c.args.self.now.tiles past)
-    c.loop-tile.invariant in
+    let told = c.steps.ensures ∙ ap (λ (b : BookValue). posted_steps b.tiles) c.self.view_is in
     let sound = subst IsBook c.self.view_is c.self.invariant.sound in
-    λ closed. all.sum ∙ closed_steps c.args.self.now.problem c.args.self.now.branch c.args.self.now.first c.args.self.now.tiles sound.tiling
+    λ closed. told ∙ closed_steps c.args.self.now.problem c.args.self.now.branch c.args.self.now.first c.args.self.now.tiles sound.tiling
     closed

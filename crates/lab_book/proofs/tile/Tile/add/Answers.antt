@@ -7,4 +7,4 @@ invariant_of-self-2 c =
     let kept = rw (← c.deref_mut-parts.ensures.value) at c.self.invariant in
     keeps_posted _ _ _ _ _ c.deref_mut-parts.result.now.stretches _ c.args.stretch kept
     c.in_ok-push.ensures.added
-    (c.in-Ok.ensures ∙ c.to.ensures)
+    (c.in-Ok.ensures ∙ c.to_mark.ensures)

@@ -11,4 +11,5 @@ invariant_of-self c =
       waits_from = waits_first _ _ first;
       waiting_are = k.waiting_are;
       leased_are = k.leased_are;
+      totals_are = k.totals_are;
     }

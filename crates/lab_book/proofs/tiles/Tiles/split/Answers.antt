@@ -6,7 +6,7 @@ use Rattle.lab_book.proofs.tiles.Tiles.split.Goals as goal
 
 -- what is kept once both are changed
 kept : (c : After-min-self-inside) → KeepsTiles c.insert.new.self.items c.push_reserved.new.self.items c.min-self-inside.result
-    (c.self.inside.waiting + 1) c.self.inside.leased
+    (c.self.inside.waiting + 1) c.self.inside.leased c.self.inside.totals
 kept c =
     let within = rw (← c.keep_place.ensures, ← c.self.view_is) at c.requires.within in
     let read = rw c.reserve.ensures.items at c.index_mut.ensures.value in
@@ -14,7 +14,7 @@ kept c =
     omega (arith, c.len-id.ensures, c.reserve.ensures.len, c.self.inside.list.ok.0) in
     let put = rw c.reserve.ensures.items at c.in-Ok.ensures.items in
     let places = c.push_reserved.ensures.items ∙ ap (λ ps. ps ++ (c.args.i + 1) ∷ []) c.reserve-2.ensures.items in
-    keeps_split _ _ _ _ _ _ _ _ c.args.i _ c.index_mut.result.now _ _ c.args.cut c.self.invariant within read c.part-tail.ensures.head count
+    keeps_split _ _ _ _ _ _ _ _ c.args.i _ c.index_mut.result.now _ _ c.args.cut _ c.self.invariant within read c.part-tail.ensures.head count
     c.part-tail.ensures.tail put places (omega (arith, c.min-self-inside.ensures)) (omega (arith, c.min-self-inside.ensures))
 
 pub invariant_of-self-2 : goal.invariant_of-self-2

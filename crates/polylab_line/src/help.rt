@@ -122,8 +122,9 @@ or a rotation or reflection, carries onto one another, whatever the names of
 the pieces. All packings are then kept in memory until the end.
 
 With --workers N, N threads share the search; what is printed is the same. They
-keep what they posted until the end, about 1 GB for 10^10 steps; one worker
-keeps these numbers alone. --table TABLE is as with `cover` (see `cover --help`).
+keep what they posted until the end, about 1 GB for 10^10 steps at the depth of
+polycubes, more for deeper runs. One worker keeps these numbers alone. --table
+TABLE is as with `cover` (see `cover --help`).
 
 Exit statuses: 0 done, 2 command line refused, 3 text refused, 4 no memory or
 workers not done, 5 reading or writing failed.",

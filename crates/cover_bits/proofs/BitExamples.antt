@@ -4,7 +4,7 @@ use Rattle.std.specs.Int.Count.{ones}
 use Rattle.cover_problem.specs.Lists.{numbers}
 use Rattle.cover_problem.proofs.CoverExamples.{small}
 use Rattle.cover_bits.specs.declared.sets.Part.{Part}
-use Rattle.cover_bits.specs.Parts.{words_for, in_row, in_parts, in_both, ones_of_both, without_row, shared_from, shared_below}
+use Rattle.cover_bits.specs.Parts.{words_for, in_row, in_parts, in_both, ones_of_both, without_row, shared_from, shared_below, to_come}
 use Rattle.cover_bits.specs.Bits.{row_at, is_left, full_set}
 use Rattle.cover_bits.specs.Rule.{TablesFit, Suits}
 
@@ -14,6 +14,10 @@ row = 5 ∷ 0 ∷ 2 ∷ []
 -- the row has the numbers 0, 2 and 129
 numbers_of_row : filter (in_row row) (numbers 192 0) ≡ 0 ∷ 2 ∷ 129 ∷ []
 numbers_of_row = refl
+
+-- a walk that has met 0 has still to meet 2 and 129
+after_zero : filter (to_come row (record { word = 4; place = 0 })) (numbers 192 0) ≡ 2 ∷ 129 ∷ []
+after_zero = refl
 
 -- its parts
 abbrev parts : List Part

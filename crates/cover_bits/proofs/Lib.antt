@@ -1,9 +1,11 @@
 pub mod BitLemmas
 pub mod PartLemmas
 pub mod RestLemmas
+pub mod WalkLemmas
 pub mod CountLemmas
 pub mod ListLemmas
 pub mod TableLemmas
+pub mod ChooseLemmas
 pub mod TurnLemmas
 pub mod NewLemmas
 pub mod RuleLemmas

@@ -2,11 +2,13 @@
 -- TAOCP volume 4A, section 7.1.3. The bit i of the word at place v stands for the number 64 v + i.
 --
 -- Example: the row 5 0 2 has the numbers 0, 2 and 129; its parts are 5 at place 0 and 2 at place 2. Without the row 4 0 2 they are
--- 1 at place 0 alone, and they share two numbers with it. proofs/BitExamples.antt computes it.
+-- 1 at place 0 alone, and they share two numbers with it. A walk over the row that has met 0 is at the word 4 of place 0, and has still
+-- to meet 2 and 129. proofs/BitExamples.antt computes it.
 use Rattle.std.specs.Prelude.{ℕ, ◌<◌, ◌≤◌, ◌≡◌, ◌+◌, ◌-◌, ◌/◌, ◌%◌, ◌*◌, ◌==◌, ◌^◌, Bool, true, false, not, cond, ◌&&◌, nat_lt, suc, List, [], ◌∷◌, sum_by, map, filter, slice_index_or, bit_and, count_ones}
 use Rattle.std.specs.Int.{bit_at, w64, bit_not}
 use Rattle.std.specs.List.{list_any}
 use Rattle.cover_bits.specs.declared.sets.Part.{Part}
+use Rattle.cover_bits.specs.declared.walk.Rest.{Rest}
 
 -- how many words a row takes for n numbers
 abbrev pub words_for : ℕ → ℕ
@@ -92,3 +94,7 @@ pub record IsLastBelow (test : ℕ → Bool) (end k : ℕ) : Type 0 where
 -- none below `end` passes
 abbrev pub NoneBelow : (ℕ → Bool) → ℕ → Type 0
 NoneBelow test end = (j : ℕ) → j < end → test j ≡ false
+
+-- whether a walk over a row has still to meet a number: in the word that it is at, or in a later one
+abbrev pub to_come : List ℕ → Rest → ℕ → Bool
+to_come row rest k = cond (rest.place == k / 64) (in_word rest.word (k % 64)) (nat_lt rest.place (k / 64) && in_row row k)

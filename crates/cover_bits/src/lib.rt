@@ -5,6 +5,7 @@ mod making;
 mod rule;
 mod sets;
 mod table;
+mod walk;
 
 pub use rule::{has_room, suits};
 pub use table::BitTable;

@@ -121,8 +121,8 @@ pub(crate) fn first_both(parts: &[Part], row: &[u64], start: u32) -> Option<u32>
     None
 }
 
-/// The first number from `start` on that both sets have. The parts before its place are passed over by halving, as their places rise:
-/// where a level is wide they are thousands, and each step asks for the next option there.
+/// The first number from `start` on that both sets have. Where there are many parts, those before its place are passed over by halving, as
+/// their places rise: where a level is wide they are thousands, and each step asks for the next option there.
 #[inline(always)]
 pub(crate) fn next_both(parts: &[Part], row: &[u64], start: u32) -> Option<u32>
     requires placed { ArePlaced 0 (length row.now) parts.now }
@@ -130,6 +130,10 @@ pub(crate) fn next_both(parts: &[Part], row: &[u64], start: u32) -> Option<u32>
     ensures some { IfSome result (λ k. IsFirstFrom (in_both parts.now row.now) start k) }
     ensures none { result ≡ None → NoneFrom (in_both parts.now row.now) start }
 {
+    // Few are gone through sooner than halved.
+    if parts.len() < 16 {
+        return first_both(parts, row, start);
+    }
     let place = start / 64;
     let before = parts.partition_point(|part| part.place < place);
     let (_, rest) = parts.split_at(before);

@@ -12,6 +12,7 @@ use crate::making::{add_below, empty_row, fill, note_all};
 use crate::sets::{
     Part, add, count_both, first_both, first_in, last_both, next_both, remove, without, words_for,
 };
+use crate::walk::{take_next, whole};
 use cover_problem::{Problem, Table, push_within};
 use std::alloc::{AllocError, Global};
 use std::marker::Model;
@@ -247,15 +248,17 @@ impl Table for BitTable {
 
     #[inline(always)]
     fn choose(&self) -> u32 {
-        // `len` would look up for each item which set its list is in. Else this is the walk of every table.
+        // The walk of every table. But `len` would look up for each item which set its list is in, and `next_item` where it stands.
         let left = self.left();
-        let mut best = self.first_item().unwrap();
+        let mut rest = whole(&self.active);
+        let mut best = after(take_next(&mut rest, &self.active)).unwrap();
         let mut least = self.len_in(left, best);
         let mut item = best;
-        while let Some(next) = self.next_item(item) {
-            if least == 0 {
+        // None has fewer than no option, and of those with as few the first is asked for.
+        while least > 0 {
+            let Some(next) = after(take_next(&mut rest, &self.active)) else {
                 return best;
-            }
+            };
             let len = self.len_in(left, next);
             if len < least {
                 best = next;

@@ -1,4 +1,4 @@
-use Rattle.std.proofs.Common.{◌+◌, ◌∙◌, arith, length}
+use Rattle.std.proofs.Common.{◌+◌, arith, length}
 use Rattle.cover_problem.proofs.CoveredLemmas.{covered_most}
 use Rattle.cover_bits.proofs.TableLemmas.{row_fits, left_now}
 use Rattle.cover_bits.proofs.table.BitTable.left.Goals as goal

@@ -1,9 +1,11 @@
-use Rattle.std.proofs.Common.{◌-◌}
+use Rattle.std.proofs.Common.{◌<◌, ◌-◌, length}
 use Rattle.cover_problem.proofs.ChoiceLemmas.{Walks}
+use Rattle.cover_bits.proofs.WalkLemmas.{IsAhead}
 use Rattle.cover_bits.proofs.table.BitTableTable.choose.Given as goal
 
-abbrev pub invariant-loop-next : goal.invariant-loop-next
-invariant-loop-next l = Walks l.self.problem l.self.covered l.item l.best l.least
+abbrev pub invariant-loop-least : goal.invariant-loop-least
+invariant-loop-least l =
+    Walks l.self.problem l.self.covered l.item l.best l.least × (l.rest.place < length l.self-inside.active.items) × IsAhead l.self-inside.active.items l.rest l.item
 
-abbrev pub decreases-loop-next : goal.decreases-loop-next
-decreases-loop-next l = l.self.problem.primary - l.item
+abbrev pub decreases-loop-least : goal.decreases-loop-least
+decreases-loop-least l = l.self.problem.primary - l.item

@@ -67,9 +67,9 @@ pub(crate) fn fill(parts: &mut [Part], words: usize, count: u32)
     ensures long { length parts.new ≡ length parts.old }
     ensures parts { take words parts.new ≡ bits.full_set count words }
 {
-    for place in 0..words as u32 {
-        parts[place as usize] = Part {
-            word: full_word(count, place),
+    for place in 0..words {
+        parts[place] = Part {
+            word: full_word(count, place as u32),
             place,
         };
     }

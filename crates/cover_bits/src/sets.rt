@@ -8,7 +8,8 @@ ghost use Rattle.cover_bits.specs.Parts.{ones_of_both, without_row, shared_from,
 #[derive(Clone, Copy)]
 pub struct Part {
     pub word: u64,
-    pub place: u32,
+    // As wide as the word, so that a part has no bytes between, which would be written with it.
+    pub place: usize,
 }
 
 /// How many words a row takes for so many numbers.
@@ -48,7 +49,7 @@ pub(crate) fn count_both(parts: &[Part], row: &[u64]) -> u32
 {
     let mut count = 0u32;
     for part in parts {
-        count += (part.word & row[part.place as usize]).count_ones();
+        count += (part.word & row[part.place]).count_ones();
     }
     count
 }
@@ -58,7 +59,7 @@ pub(crate) fn count_both(parts: &[Part], row: &[u64]) -> u32
 /// A word that is 0 is written too, and the next one over it: so the loop has no branch. None of them is kept, since a few
 /// levels down most words of a set are 0, and each later count goes over what was kept.
 #[inline(always)]
-pub(crate) fn without(into: &mut [Part], parts: &[Part], row: &[u64]) -> u32
+pub(crate) fn without(into: &mut [Part], parts: &[Part], row: &[u64]) -> usize
     requires within { All (λ part. part.place < length row.now) parts.now }
     requires room { length parts.now ≤ length into.old }
     requires small { length parts.now < 2 ^ 32 }
@@ -66,14 +67,14 @@ pub(crate) fn without(into: &mut [Part], parts: &[Part], row: &[u64]) -> u32
     ensures few { result ≤ length parts.now }
     ensures parts { take result into.new ≡ without_row row.now parts.now }
 {
-    let mut kept = 0u32;
+    let mut kept = 0usize;
     for part in parts {
-        let word = part.word & !row[part.place as usize];
-        into[kept as usize] = Part {
+        let word = part.word & !row[part.place];
+        into[kept] = Part {
             word,
             place: part.place,
         };
-        kept += (word != 0) as u32;
+        kept += (word != 0) as usize;
     }
     kept
 }
@@ -93,11 +94,11 @@ fn shared_from(part: Part, row: &[u64], start: u32) -> u64
     requires { part.place < length row.now }
     ensures { result ≡ shared_from row.now start part }
 {
-    let word = part.word & row[part.place as usize];
+    let word = part.word & row[part.place];
     // All numbers of a place past that of `start` are from `start` on, and none of a place before it is.
-    if part.place > start / 64 {
+    if part.place > (start / 64) as usize {
         word
-    } else if part.place == start / 64 {
+    } else if part.place == (start / 64) as usize {
         word & from_bit(start % 64)
     } else {
         0
@@ -115,7 +116,7 @@ pub(crate) fn first_both(parts: &[Part], row: &[u64], start: u32) -> Option<u32>
     for part in parts {
         let word = shared_from(*part, row, start);
         if word != 0 {
-            return Some(part.place * 64 + word.trailing_zeros());
+            return Some(part.place as u32 * 64 + word.trailing_zeros());
         }
     }
     None
@@ -134,7 +135,7 @@ pub(crate) fn next_both(parts: &[Part], row: &[u64], start: u32) -> Option<u32>
     if parts.len() < 16 {
         return first_both(parts, row, start);
     }
-    let place = start / 64;
+    let place = (start / 64) as usize;
     let before = parts.partition_point(|part| part.place < place);
     let (_, rest) = parts.split_at(before);
     first_both(rest, row, start)
@@ -155,10 +156,10 @@ fn shared_below(part: Part, row: &[u64], end: u32) -> u64
     requires { part.place < length row.now }
     ensures { result ≡ shared_below row.now end part }
 {
-    let word = part.word & row[part.place as usize];
-    if part.place < end / 64 {
+    let word = part.word & row[part.place];
+    if part.place < (end / 64) as usize {
         word
-    } else if part.place == end / 64 {
+    } else if part.place == (end / 64) as usize {
         word & below_bit(end % 64)
     } else {
         0
@@ -177,7 +178,7 @@ pub(crate) fn last_both(parts: &[Part], row: &[u64], end: u32) -> Option<u32>
     for part in parts {
         let word = shared_below(*part, row, end);
         if word != 0 {
-            last = Some(part.place * 64 + (63 - word.leading_zeros()));
+            last = Some(part.place as u32 * 64 + (63 - word.leading_zeros()));
         }
     }
     last
@@ -190,7 +191,7 @@ pub(crate) fn first_in(row: &[u64], start: u32) -> Option<u32>
     ensures some { IfSome result (λ k. IsFirstFrom (in_row row.now) start k) }
     ensures none { result ≡ None → NoneFrom (in_row row.now) start }
 {
-    for place in start / 64..row.len() as u32 {
+    for place in (start / 64) as usize..row.len() {
         // Shared with all numbers: the row's own word is left.
         let part = Part {
             word: u64::MAX,
@@ -198,7 +199,7 @@ pub(crate) fn first_in(row: &[u64], start: u32) -> Option<u32>
         };
         let word = shared_from(part, row, start);
         if word != 0 {
-            return Some(place * 64 + word.trailing_zeros());
+            return Some(place as u32 * 64 + word.trailing_zeros());
         }
     }
     None

@@ -102,7 +102,7 @@ fn write_next(parts: &mut [Part], counts: &mut [u32], words: usize, depth: usize
     // Parted, so that one set is read while the next is written.
     let (before, next) = parts.split_at_mut((depth + 1) * words);
     let left = set(before, counts, words, depth);
-    counts[depth + 1] = without(next, left, column);
+    counts[depth + 1] = without(next, left, column) as u32;
 }
 
 /// Takes an item out of the active ones. A secondary item never stands there.

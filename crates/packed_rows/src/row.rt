@@ -56,6 +56,11 @@ pub(crate) fn put(bytes: &mut Vec<u8>, n: u64)
     ensures long { vec_len bytes.new ≤ vec_len bytes.old + 10 }
     ensures capacity { vec_capacity bytes.new ≡ vec_capacity bytes.old }
 {
+    // Most numbers have one byte, and no call is made for it.
+    if n < 128 {
+        bytes.push_reserved(n as u8);
+        return;
+    }
     // 64 bits are ten groups of seven, so nine at most stand before the last.
     put_front(bytes, n / 128, 9);
     bytes.push_reserved((n % 128) as u8);
@@ -92,22 +97,32 @@ pub(crate) fn put_words(bytes: &mut Vec<u8>, list: &[u32])
     }
 }
 
-/// Adds the bytes of a list; where memory runs out, nothing changes. What a long list has in common with the one before is not made again.
-fn put_numbers(bytes: &mut Vec<u8>, known: &mut Known, list: &[u32]) -> Result<(), AllocError>
+/// Adds the bytes of a long list; where memory runs out, nothing changes. What it has in common with the one before is not made again.
+// Not inlined, so that what puts a short list is short itself, and is inlined where many are put.
+#[inline(never)]
+fn put_long(bytes: &mut Vec<u8>, known: &mut Known, list: &[u32]) -> Result<(), AllocError>
     ensures added { OnOk result (bytes.new.items ≡ bytes.old.items ++ flat_map bytes_of list.now) }
     ensures unchanged { OnErr result (bytes.new.items ≡ bytes.old.items) }
 {
-    // Five bytes are enough for each number: room is taken once for all.
-    if list.len() < STEP {
-        bytes.reserve(5 * list.len())?;
-        put_words(bytes, list);
-        return Ok(());
-    }
     let rest = known.learn(list)?;
     let first = known.bytes();
     bytes.reserve(rest.len().saturating_mul(5).saturating_add(first.len()))?;
     put_bytes(bytes, first);
     put_words(bytes, rest);
+    Ok(())
+}
+
+/// Adds the bytes of a list; where memory runs out, nothing changes.
+fn put_numbers(bytes: &mut Vec<u8>, known: &mut Known, list: &[u32]) -> Result<(), AllocError>
+    ensures added { OnOk result (bytes.new.items ≡ bytes.old.items ++ flat_map bytes_of list.now) }
+    ensures unchanged { OnErr result (bytes.new.items ≡ bytes.old.items) }
+{
+    if list.len() >= STEP {
+        return put_long(bytes, known, list);
+    }
+    // Five bytes are enough for each number: room is taken once for all.
+    bytes.reserve(5 * list.len())?;
+    put_words(bytes, list);
     Ok(())
 }
 
@@ -152,6 +167,7 @@ impl Row {
     }
 
     /// Adds a list of numbers; where memory runs out, nothing changes. Rows that hold one for long share what is the same in long lists.
+    #[inline(always)]
     pub fn put_list(&mut self, list: &[u32]) -> Result<(), AllocError>
         ensures added { OnOk result (self.new ≡ self.old ++ list.now) }
         ensures unchanged { OnErr result (self.new ≡ self.old) }

@@ -10,6 +10,7 @@ use std::alloc::AllocError;
 use x_steps::{Cursor, Label, State, shared};
 
 /// Adds choices, or other numbers of 32 bits; where memory runs out, none.
+#[inline(always)]
 pub fn put_choices(row: &mut Row, choices: &[u32]) -> Result<(), AllocError>
     ensures code { OnOk result (row.new ≡ row.old ++ choices.now) }
     ensures unchanged { OnErr result (row.new ≡ row.old) }
@@ -19,6 +20,7 @@ pub fn put_choices(row: &mut Row, choices: &[u32]) -> Result<(), AllocError>
 }
 
 /// Adds a list of choices, with its length before it. Where memory runs out, some numbers may be there.
+#[inline(always)]
 pub fn put_path(row: &mut Row, path: &[u32]) -> Result<(), AllocError>
     ensures code { OnOk result (row.new ≡ row.old ++ path_code path.now) }
     ensures reads { OnOk result (ReadsPath path.now) }

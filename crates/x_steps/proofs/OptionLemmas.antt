@@ -1,5 +1,5 @@
 -- The item that was chosen, found among the items of an option that is left for it.
-use Rattle.std.proofs.Common.{◌≡◌, ℕ, suc, ◌+◌, ◌<◌, ◌≤◌, ◌⊎◌, inl, inr, List, [], ◌∷◌, ◌++◌, length, get_or, take, ◌-◌, Bool, ◌||◌, true, false, refl, sym, ap, ◌∙◌, subst, arith, add-one, le_refl}
+use Rattle.std.proofs.Common.{◌≡◌, ℕ, ◌+◌, ◌<◌, ◌≤◌, ◌⊎◌, inl, inr, List, [], ◌∷◌, ◌++◌, length, get_or, take, ◌-◌, Bool, ◌||◌, true, false, refl, sym, ap, ◌∙◌, subst, arith, add-one}
 use Rattle.std.proofs.Math.Seq.{take-suc}
 use Rattle.std.proofs.lemmas.Bool.{cases_lt, cases_eq, false≢true, ne_eqb}
 use Rattle.std.proofs.lemmas.List.Sums.{length-filter, count_by-le-length}

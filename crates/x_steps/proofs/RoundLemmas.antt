@@ -1,7 +1,7 @@
 -- Rounds: the steps from one X5 to the next, or to a visit or the end.
-use Rattle.std.proofs.Common.{◌≡◌, ℕ, suc, ◌+◌, ◌<◌, ◌≤◌, ◌⊎◌, inl, inr, Bool, true, false, Option, Some, List, [], ◌∷◌, length, slice_index, slice_set, refl, sym, ap, ◌∙◌, subst, arith, if◌then◌else◌}
+use Rattle.std.proofs.Common.{◌≡◌, ℕ, suc, ◌+◌, ◌-◌, ◌<◌, ◌≤◌, ◌⊎◌, inl, inr, Bool, true, false, Option, Some, List, [], ◌∷◌, length, slice_index, slice_set, refl, sym, ap, ◌∙◌, subst, arith, if◌then◌else◌}
 use Rattle.std.proofs.Common as common
-use Rattle.std.proofs.lemmas.Bool.{cases_lt}
+use Rattle.std.proofs.lemmas.Bool.{cases_lt, cases_order}
 use Rattle.cover_problem.specs.Problem.{ProblemValue, IsProblem}
 use Rattle.cover_problem.proofs.PathLemmas.{depth}
 use Rattle.x_steps.specs.declared.state.Label.{Label}
@@ -16,7 +16,8 @@ use Rattle.x_steps.specs.Steps.{Fits, FitsAt, next, event_of, event_at, is_level
 use Rattle.x_steps.specs.Run.{after}
 use Rattle.x_steps.specs.Machine.{Position, Goes, Keeps}
 use Rattle.x_steps.specs.Walk.{IsWalk, IsRound}
-use Rattle.x_steps.proofs.WalkLemmas.{none_walked, walked_other, walked_level}
+use Rattle.x_steps.proofs.RunLemmas.{after_add}
+use Rattle.x_steps.proofs.WalkLemmas.{none_walked, walked_other, walked_level, walked_join}
 
 -- ---- where a step leads
 
@@ -130,20 +131,21 @@ module _ {old new : Position} {event : Event} (g : Goes old new event) where
     goes_at : (l : Label) → old.state.label ≡ l → (l ≡ Done → ⊥) → is_level l ≡ false → IsWalk p s old.state a b n Moved → IsWalk p s new.state a b (suc n) event
     goes_at l e goes_on other w = goes_other w (λ d. goes_on (sym e ∙ d)) (ap is_level e ∙ other)
 
-    -- and so does a round, where it didn't come to X5
-    passes_on : IsRound p 4 s old.state a b n Moved → (old.state.label ≡ X5 → ⊥) → (i : ℕ) → 0 < i → i < suc n → (after p i s).label ≡ X5 → ⊥
-    passes_on r apart i l m = step (cases_lt i n)
-      where
-        step : (i < n) ⊎ (n ≤ i) → (after p i s).label ≡ X5 → ⊥
-        step (inl b) h = r.passes i l b h
-        step (inr b) h = let e : n ≡ i = omega arith in apart (ap (λ s. s.label) (sym r.walk.reaches.ends) ∙ ap (λ i. (after p i s).label) e ∙ h)
+    -- and so does a round of at most so many steps, where it didn't come to X5
+    module _ (most : ℕ) where
+      passes_on : IsRound p most s old.state a b n Moved → (old.state.label ≡ X5 → ⊥) → (i : ℕ) → 0 < i → i < suc n → (after p i s).label ≡ X5 → ⊥
+      passes_on r apart i l m = step (cases_lt i n)
+        where
+          step : (i < n) ⊎ (n ≤ i) → (after p i s).label ≡ X5 → ⊥
+          step (inl b) h = r.passes i l b h
+          step (inr b) h = let e : n ≡ i = omega arith in apart (ap (λ s. s.label) (sym r.walk.reaches.ends) ∙ ap (λ i. (after p i s).label) e ∙ h)
 
-    round_at : (l : Label) → old.state.label ≡ l → (l ≡ Done → ⊥) → (l ≡ X5 → ⊥) → is_level l ≡ false → n < 4 → IsRound p 4 s old.state a b n Moved → IsRound p 4 s new.state a b (suc n) event
-    round_at l e goes_on apart other lt r = record { walk = goes_at l e goes_on other r.walk; some = omega arith; within = omega arith; passes = passes_on r (λ h. apart (sym e ∙ h)) }
+      round_at : (l : Label) → old.state.label ≡ l → (l ≡ Done → ⊥) → (l ≡ X5 → ⊥) → is_level l ≡ false → n < most → IsRound p most s old.state a b n Moved → IsRound p most s new.state a b (suc n) event
+      round_at l e goes_on apart other lt r = record { walk = goes_at l e goes_on other r.walk; some = omega arith; within = omega arith; passes = passes_on r (λ h. apart (sym e ∙ h)) }
 
-    round_level : old.state.label ≡ X2 → length old.state.path < length b → n < 4 → IsRound p 4 s old.state a b n Moved
-        → IsRound p 4 s new.state a (slice_set b (length old.state.path) (slice_index b (length old.state.path) + 1)) (suc n) event
-    round_level e l lt r = record { walk = goes_level r.walk e l; some = omega arith; within = omega arith; passes = passes_on r (λ h. let x : X2 ≡ X5 = sym e ∙ h in absurd (cc)) }
+      round_level : old.state.label ≡ X2 → length old.state.path < length b → n < most → IsRound p most s old.state a b n Moved
+          → IsRound p most s new.state a (slice_set b (length old.state.path) (slice_index b (length old.state.path) + 1)) (suc n) event
+      round_level e l lt r = record { walk = goes_level r.walk e l; some = omega arith; within = omega arith; passes = passes_on r (λ h. let x : X2 ≡ X5 = sym e ∙ h in absurd (cc)) }
 
 -- ---- one step
 
@@ -176,7 +178,7 @@ module _ {m0 m1 m2 : Position} {e1 e2 : Event} (g1 : Goes m0 m1 e1) (g2 : Goes m
   counted = slice_set counts (length m1.state.path) (slice_index counts (length m1.state.path) + 1)
 
   pub two_steps : IsRound m0.problem 4 m0.state m2.state counts counted 2 e2
-  two_steps = round_level g2 m0.problem g1.problem m0.state counts counts 1 (takes_to_X2 g1 label at_option) level (omega arith) (from_X5 g1 counts label)
+  two_steps = round_level g2 m0.problem g1.problem m0.state counts counts 1 4 (takes_to_X2 g1 label at_option) level (omega arith) (from_X5 g1 counts label)
 
   module _ {m3 m4 : Position} {e3 e4 : Event} (g3 : Goes m2 m3 e3) (g4 : Goes m3 m4 e4) (moved : e2 ≡ Moved) where
     at_X3 : m2.state.label ≡ X3
@@ -184,34 +186,58 @@ module _ {m0 m1 m2 : Position} {e1 e2 : Event} (g1 : Goes m0 m1 e1) (g2 : Goes m
 
     third : IsRound m0.problem 4 m0.state m3.state counts counted 3 e3
     third =
-        round_at g3 m0.problem (g2.problem ∙ g1.problem) m0.state counts counted 2 X3 at_X3 (λ d. absurd (cc)) (λ d. absurd (cc)) refl (omega arith)
+        round_at g3 m0.problem (g2.problem ∙ g1.problem) m0.state counts counted 2 4 X3 at_X3 (λ d. absurd (cc)) (λ d. absurd (cc)) refl (omega arith)
         (subst (IsRound m0.problem 4 m0.state m2.state counts counted 2) moved two_steps)
 
     pub four_steps : IsRound m0.problem 4 m0.state m4.state counts counted 4 e4
     four_steps =
-        round_at g4 m0.problem (g3.problem ∙ g2.problem ∙ g1.problem) m0.state counts counted 3 X4 (plans_to_X4 g3 at_X3) (λ d. absurd (cc)) (λ d. absurd (cc)) refl (omega arith)
+        round_at g4 m0.problem (g3.problem ∙ g2.problem ∙ g1.problem) m0.state counts counted 3 4 X4 (plans_to_X4 g3 at_X3) (λ d. absurd (cc)) (λ d. absurd (cc)) refl (omega arith)
         (subst (IsRound m0.problem 4 m0.state m3.state counts counted 3) (g3.tells ∙ X3_moves m2.problem m2.state at_X3) third)
 
--- ---- X5 past the last option: the item is closed
+-- ---- X8: the last choice is taken back
 
-module _ {m0 m1 m2 m3 : Position} {e1 e2 e3 : Event} (g1 : Goes m0 m1 e1) (g2 : Goes m1 m2 e2) (g3 : Goes m2 m3 e3) (counts : List ℕ)
-    (label : m0.state.label ≡ X5) (past : m0.state.cursor ≡ Past) where
+module _ {m0 m1 : Position} {e1 : Event} (g1 : Goes m0 m1 e1) (counts : List ℕ) (label : m0.state.label ≡ X8) where
+  pub one_back : IsRound m0.problem 2 m0.state m1.state counts counts 1 e1
+  one_back = more_room m0.problem 1 2 m0.state m1.state counts counts 1 e1 (omega arith) (one_other g1 counts (λ d. let x : X8 ≡ Done = sym label ∙ d in absurd (cc)) (ap is_level label))
+
+  module _ {m2 : Position} {e2 : Event} (g2 : Goes m1 m2 e2) {o : ℕ} (at_option : m1.state.cursor ≡ At o) where
+    pub two_back : IsRound m0.problem 2 m0.state m2.state counts counts 2 e2
+    two_back =
+        round_at g2 m0.problem g1.problem m0.state counts counts 1 2 X6 (leaves_to_X6 g1 label at_option) (λ d. absurd (cc)) (λ d. absurd (cc)) refl (omega arith)
+        (subst (IsRound m0.problem 2 m0.state m1.state counts counts 1) (leaving_moves g1 label at_option) one_back)
+
+-- ---- X5 past the last option: the item is closed, and a round from X8 goes on
+
+module _ {m0 m1 m2 : Position} {e1 e2 : Event} (g1 : Goes m0 m1 e1) (g2 : Goes m1 m2 e2) (label : m0.state.label ≡ X5) (past : m0.state.cursor ≡ Past) where
   at_X7 : m1.state.label ≡ X7
   at_X7 = gives_up_to_X7 g1 label past
 
   at_X8 : m2.state.label ≡ X8
   at_X8 = closes_to_X8 g2 at_X7
 
-  closed : IsRound m0.problem 4 m0.state m2.state counts counts 2 Moved
-  closed =
+  closed : (counts : List ℕ) → IsRound m0.problem 4 m0.state m2.state counts counts 2 Moved
+  closed counts =
       subst (IsRound m0.problem 4 m0.state m2.state counts counts 2) (g2.tells ∙ X7_moves m1.problem m1.state at_X7)
-      (round_at g2 m0.problem g1.problem m0.state counts counts 1 X7 at_X7 (λ d. absurd (cc)) (λ d. absurd (cc)) refl (omega arith) (from_X5 g1 counts label))
+      (round_at g2 m0.problem g1.problem m0.state counts counts 1 4 X7 at_X7 (λ d. absurd (cc)) (λ d. absurd (cc)) refl (omega arith) (from_X5 g1 counts label))
 
-  pub three_back : IsRound m0.problem 4 m0.state m3.state counts counts 3 e3
-  three_back = round_at g3 m0.problem (g2.problem ∙ g1.problem) m0.state counts counts 2 X8 at_X8 (λ d. absurd (cc)) (λ d. absurd (cc)) refl (omega arith) closed
+  pub closed_on : (counts : List ℕ) (t : StateValue) (k : ℕ) (event : Event) → IsRound m2.problem 2 m2.state t counts counts k event → IsRound m0.problem 4 m0.state t counts counts (2 + k) event
+  closed_on counts t k event round = record {
+    walk = walked_join m0.problem m0.state m2.state counts counts 2 first.walk t counts k event rest.walk;
+    some = omega arith;
+    within = let w = rest.within in omega arith;
+    passes = λ i l m. step i l m (cases_order i 2);
+  }
+    where
+      first : IsRound m0.problem 4 m0.state m2.state counts counts 2 Moved
+      first = closed counts
 
-  module _ {m4 : Position} {e4 : Event} (g4 : Goes m3 m4 e4) {o : ℕ} (at_option : m3.state.cursor ≡ At o) where
-    pub four_back : IsRound m0.problem 4 m0.state m4.state counts counts 4 e4
-    four_back =
-        round_at g4 m0.problem (g3.problem ∙ g2.problem ∙ g1.problem) m0.state counts counts 3 X6 (leaves_to_X6 g3 at_X8 at_option) (λ d. absurd (cc)) (λ d. absurd (cc)) refl (omega arith)
-        (subst (IsRound m0.problem 4 m0.state m3.state counts counts 3) (leaving_moves g3 at_X8 at_option) three_back)
+      rest : IsRound m0.problem 2 m2.state t counts counts k event
+      rest = subst (λ p. IsRound p 2 m2.state t counts counts k event) (g2.problem ∙ g1.problem) round
+
+      step : (i : ℕ) → 0 < i → i < 2 + k → (i ≡ 2) ⊎ ((i < 2) ⊎ (2 < i)) → (after m0.problem i m0.state).label ≡ X5 → ⊥
+      step i l m (inl e) h = let x : X8 ≡ X5 = sym at_X8 ∙ ap (λ s. s.label) (sym first.walk.reaches.ends) ∙ ap (λ i. (after m0.problem i m0.state).label) (sym e) ∙ h in absurd (cc)
+      step i l m (inr (inl b)) h = first.passes i l b h
+      step i l m (inr (inr b)) h =
+          let d : (i - 2) + 2 ≡ i = omega arith in
+          let later : after m0.problem (i - 2) m2.state ≡ after m0.problem i m0.state = ap (after m0.problem (i - 2)) (sym first.walk.reaches.ends) ∙ after_add m0.problem (i - 2) 2 m0.state ∙ ap (λ j. after m0.problem j m0.state) d in
+          rest.passes (i - 2) (omega arith) (omega arith) (ap (λ u. u.label) later ∙ h)

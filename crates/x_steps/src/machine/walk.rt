@@ -2,6 +2,7 @@
 ghost use Rattle.std.specs.Prelude.{◌≡◌, ◌≢◌, ◌<◌, ◌≤◌, ◌+◌, ◌^◌, ◌↔◌, ◌∷◌, ◌++◌, [], ℕ, List, length, replicate, slice_index};
 ghost use Rattle.std.specs.Prelude.{slice_set, IfErr, IfOk, IsErr, IsTrue};
 ghost use Rattle.x_steps.specs.Walk.{OnlyMoves, IsAtCut, HasRoom, Reaches, CountsPassed, PassesNoCut, TellsLast, IsOver, IsRoundOf};
+ghost use Rattle.x_steps.specs.Machine.{IsAt};
 ghost use Rattle.x_steps.specs.StateView.{state_value};
 
 use crate::event::Event;
@@ -117,6 +118,8 @@ impl<'p, T: Table> Machine<'p, T> {
         match (self.state.label, self.state.cursor) {
             (Label::X5, Cursor::At(option)) if most >= 4 => self.take_and_open(option, counts),
             (Label::X5, Cursor::Past) if most >= 4 => self.close_and_retry(),
+            // A walk that ended at a visit is gone on with here.
+            (Label::X8, _) if most >= 2 => self.leave_and_retry(),
             _ => self.single(counts),
         }
     }
@@ -155,13 +158,27 @@ impl<'p, T: Table> Machine<'p, T> {
     {
         self.give_up();
         self.close();
+        let rest = self.leave_and_retry();
+        Walk {
+            steps: 2 + rest.steps,
+            event: rest.event,
+        }
+    }
+
+    /// X8: the last choice is taken back, and its item's next option comes; or the search ends.
+    #[inline(always)]
+    fn leave_and_retry(&mut self) -> Walk
+        requires { IsAt self.old Label.X8 }
+        ensures problem { self.new.problem ≡ self.old.problem }
+        ensures round { (counts : List ℕ) → IsRoundOf 2 self.old self.new counts counts result }
+    {
         let event = self.leave();
         // X8 leads to X6 at an option, or from the empty path to Done.
         let Cursor::At(option) = self.state.cursor else {
-            return Walk { steps: 3, event };
+            return Walk { steps: 1, event };
         };
         let event = self.retry(option);
-        Walk { steps: 4, event }
+        Walk { steps: 2, event }
     }
 
     /// One step. Inlined with what it calls, so that no call is handed the machine's address: the compiler then keeps the block's

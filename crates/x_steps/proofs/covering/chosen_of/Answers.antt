@@ -1,9 +1,8 @@
-use Rattle.std.proofs.Common.{◌≡◌, arith, subst, length, true, sym, ◌∙◌}
+use Rattle.std.proofs.Common.{arith, sym, ◌∙◌}
 use Rattle.std.proofs.lemmas.Bool.{false≢true}
 use Rattle.std.proofs.lemmas.List.{take_all}
-use Rattle.cover_problem.specs.Lists.{has}
 use Rattle.cover_problem.proofs.MemberLemmas.{has_at}
-use Rattle.x_steps.proofs.OptionLemmas.{IsBest, best_begins, best_taken, best_kept, best_is_choice}
+use Rattle.x_steps.proofs.OptionLemmas.{best_begins, best_taken, best_kept, best_is_choice}
 use Rattle.x_steps.proofs.covering.chosen_of.Goals.{then-comes_before, else-comes_before}
 use Rattle.x_steps.proofs.covering.chosen_of.Goals as goal
 

@@ -1,24 +1,15 @@
-use Rattle.std.proofs.Common.{◌∙◌, ap, sym}
-use Rattle.x_steps.proofs.RoundLemmas.{gives_up_to_X7, closes_to_X8, leaves_to_X6, three_back, four_back}
+use Rattle.std.proofs.Common.{[], arith}
+use Rattle.x_steps.proofs.RoundLemmas.{gives_up_to_X7, closes_to_X8, closed_on}
 use Rattle.x_steps.proofs.machine.Machine.close_and_retry.Goals as goal
 
 pub close-requires : goal.close-requires
 close-requires g c = gives_up_to_X7 c.give_up.ensures c.requires.label c.requires.cursor
 
-pub leave-event-requires : goal.leave-event-requires
-leave-event-requires g c = closes_to_X8 c.close.ensures (gives_up_to_X7 c.give_up.ensures c.requires.label c.requires.cursor)
+pub leave_and_retry-rest-requires : goal.leave_and_retry-rest-requires
+leave_and_retry-rest-requires g c = closes_to_X8 c.close.ensures (gives_up_to_X7 c.give_up.ensures c.requires.label c.requires.cursor)
 
-pub returns-in_default : goal.returns-in_default
-returns-in_default g c = record {
-  problem = c.leave-event.ensures.problem ∙ c.close.ensures.problem ∙ c.give_up.ensures.problem;
-  round = λ counts. three_back c.give_up.ensures c.close.ensures c.leave-event.ensures counts c.requires.label c.requires.cursor;
-}
-
-pub retry-event-requires-clause-label : goal.retry-event-requires-clause-label
-retry-event-requires-clause-label g c =
-    let at_X8 = closes_to_X8 c.close.ensures (gives_up_to_X7 c.give_up.ensures c.requires.label c.requires.cursor) in
-    leaves_to_X6 c.leave-event.ensures at_X8 (sym (ap (λ m. m.state.cursor) c.self.view_is) ∙ c.in-At.is)
+pub overflow_add-result : goal.overflow_add-result
+overflow_add-result g c = let w = (c.leave_and_retry-rest.ensures.round []).within in omega arith
 
 pub returns-clause-round : goal.returns-clause-round
-returns-clause-round g c = λ counts.
-    four_back c.give_up.ensures c.close.ensures c.leave-event.ensures counts c.requires.label c.requires.cursor c.retry-event.ensures (sym (ap (λ m. m.state.cursor) c.self.view_is) ∙ c.in-At.is)
+returns-clause-round g c = λ counts. closed_on c.give_up.ensures c.close.ensures c.requires.label c.requires.cursor counts _ _ _ (c.leave_and_retry-rest.ensures.round counts)

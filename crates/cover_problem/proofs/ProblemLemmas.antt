@@ -1,5 +1,5 @@
 -- What is made of names and options, and copies and comparisons of problems.
-use Rattle.std.proofs.Common.{◌≡◌, refl, sym, ap, ◌∙◌, subst, ℕ, ◌+◌, ◌-◌, ◌<◌, ◌≤◌, Bool, true, false, not, ◌&&◌, List, [], map, length, get_or, take, Option, Some, None, Result, Ok, Err, sum_by, nat_lt, nat_le, ◌==◌, bytes_eq, arith, inl, inr, ◌⊎◌, ltb-true, lt-ltb, leb-true, le-leb, eq-eqb, eqb-true, Decides, IfOk}
+use Rattle.std.proofs.Common.{◌≡◌, refl, sym, ap, ◌∙◌, subst, ℕ, ◌+◌, ◌<◌, ◌≤◌, Bool, true, false, not, ◌&&◌, List, [], map, length, get_or, take, Option, Some, None, Result, Ok, Err, sum_by, nat_lt, nat_le, ◌==◌, bytes_eq, arith, inl, inr, ◌⊎◌, ltb-true, lt-ltb, leb-true, le-leb, eq-eqb, eqb-true, Decides, IfOk}
 use Rattle.std.specs.Result.{result_ok}
 use Rattle.std.specs.Cmp.Lexicographic.{pointwise, pointwise_decides, bytes_decides}
 use Rattle.std.proofs.lemmas.Bool.{and_parts, and_from, lt-leb, not-false}

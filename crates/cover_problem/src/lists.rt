@@ -26,6 +26,9 @@ impl Model for Lists {
     ghost invariant = { λ a. IsParted a.flat.items 0 a.ends.items };
 }
 
+/// A list of at most so many numbers is added one by one: for a few, a copy of memory takes longer.
+const FEW: usize = 8;
+
 /// The part of a list from one place up to another.
 fn part(list: &[u32], start: usize, end: usize) -> &[u32]
     requires order { start ≤ end }
@@ -44,6 +47,43 @@ fn start_of(ends: &[usize], place: usize) -> usize
 {
     // Only ends are kept: a list begins where the one before it ends.
     if place == 0 { 0 } else { ends[place - 1] }
+}
+
+/// Makes room for so many more, with no call where there is room.
+#[inline(always)]
+fn make_room<T>(list: &mut Vec<T>, more: usize) -> Result<(), AllocError>
+    ensures same { list.new.items ≡ list.old.items }
+    ensures room { OnOk result (vec_len list.new + more ≤ vec_capacity list.new) }
+{
+    if list.capacity() - list.len() < more {
+        list.reserve(more)?;
+    }
+    Ok(())
+}
+
+/// Pushes each number.
+#[inline(always)]
+fn push_each(flat: &mut Vec<u32>, list: &[u32])
+    requires room { vec_len flat.old + length list.now ≤ vec_capacity flat.old }
+    ensures { flat.new.items ≡ flat.old.items ++ list.now }
+{
+    for number in list {
+        flat.push_reserved(*number);
+    }
+}
+
+/// Adds the numbers of a list. Where memory runs out, nothing changes.
+#[inline(always)]
+fn extend(flat: &mut Vec<u32>, list: &[u32]) -> Result<(), AllocError>
+    ensures added { OnOk result (flat.new.items ≡ flat.old.items ++ list.now) }
+    ensures unchanged { OnErr result (flat.new.items ≡ flat.old.items) }
+{
+    if list.len() > FEW {
+        return flat.extend_from_slice(list);
+    }
+    make_room(flat, list.len())?;
+    push_each(flat, list);
+    Ok(())
 }
 
 /// Pushes each number, with `start` added.
@@ -92,13 +132,14 @@ impl Lists {
     }
 
     /// Adds a list at the end. Where memory runs out, nothing changes.
+    #[inline(always)]
     pub fn push(&mut self, list: &[u32]) -> Result<(), AllocError>
         ensures added { OnOk result (self.new ≡ self.old ++ list.now ∷ []) }
         ensures unchanged { OnErr result (self.new ≡ self.old) }
     {
         // Room for the end is made before anything changes: what follows fails as a whole, or can't fail.
-        self.ends.reserve(1)?;
-        self.flat.extend_from_slice(list)?;
+        make_room(&mut self.ends, 1)?;
+        extend(&mut self.flat, list)?;
         let end = self.flat.len();
         self.ends.push_reserved(end);
         Ok(())
@@ -150,8 +191,10 @@ impl Lists {
     pub fn copy(&self) -> Result<Lists, AllocError>
         ensures { Returns result self.now }
     {
-        let flat = self.flat.clone()?;
-        let ends = self.ends.clone()?;
+        // Copied as blocks, where `clone` goes number by number.
+        let alloc = *self.flat.allocator();
+        let flat = Vec::from_slice(alloc, &self.flat)?;
+        let ends = Vec::from_slice(alloc, &self.ends)?;
         Ok(Lists { flat, ends })
     }
 }

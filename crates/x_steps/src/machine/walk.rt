@@ -118,7 +118,7 @@ impl<'p, T: Table> Machine<'p, T> {
         match (self.state.label, self.state.cursor) {
             (Label::X5, Cursor::At(option)) if most >= 4 => self.take_and_open(option, counts),
             (Label::X5, Cursor::Past) if most >= 4 => self.close_and_retry(),
-            // A walk that ended at a visit is gone on with here.
+            // Behind a visit, at which the walk before this one ended.
             (Label::X8, _) if most >= 2 => self.leave_and_retry(),
             _ => self.single(counts),
         }

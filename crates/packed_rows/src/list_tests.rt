@@ -1,6 +1,7 @@
 //! Lists are read as they were put, whatever list stood in the row before.
 
 use crate::Row;
+use cover_problem::Lists;
 use std::alloc::{AllocError, Global};
 use std::process::Abort;
 
@@ -59,5 +60,36 @@ fn a_list_is_read_whatever_stood_before(rt: HostRuntime) -> Result<(), AllocErro
         let list = list_of(rt.alloc(), *count, *agreed)?;
         assert_list(&rt, &mut row, &list)?;
     }
+    Ok(())
+}
+
+/// How many numbers lists have that are put at once: from none on, and about where a list is shared, and where one is known.
+static LENGTHS: [u32; 12] = [0, 1, 5, 31, 32, 2, 33, 63, 3, 64, 200, 4];
+
+/// Lists of so many numbers, four times over.
+fn lists_of(alloc: Global) -> Result<Lists, AllocError> {
+    let mut lists = Lists::new(alloc);
+    for agreed in 0..4u32 {
+        for count in &LENGTHS {
+            lists.push(&list_of(alloc, *count, agreed)?)?;
+        }
+    }
+    Ok(lists)
+}
+
+#[test]
+fn lists_at_once_are_put_as_one_by_one(rt: HostRuntime) -> Result<(), AllocError> {
+    let lists = lists_of(rt.alloc())?;
+    let mut at_once = Row::new(rt.alloc());
+    at_once.put(7)?;
+    at_once.put_lists(&lists)?;
+    let mut one_by_one = Row::new(rt.alloc());
+    one_by_one.put(7)?;
+    for place in 0..lists.len() {
+        one_by_one.put(lists.list(place).len() as u64)?;
+        one_by_one.put_list(lists.list(place))?;
+    }
+    assert!(rt; at_once.size() == one_by_one.size());
+    assert!(rt; at_once.reader().same(&one_by_one.reader()));
     Ok(())
 }

@@ -5,12 +5,15 @@ ghost use Rattle.std.specs.List.{flat_map};
 ghost use Rattle.cover_problem.specs.Answers.{Returns};
 ghost use Rattle.packed_rows.specs.Numbers.{front, bytes_of, numbers_of, IsRow};
 
+mod lists;
+
 use crate::draft::{LONG, put_bytes};
 use crate::known::{Known, STEP};
 use crate::reader::Reader;
 use crate::rope::Rope;
 use std::alloc::{AllocError, Global};
 use std::marker::Model;
+use std::mem;
 
 /// A row of numbers, below 2^64 each: one byte for each seven bits of a number, and one byte at least.
 #[derive(Drop)]
@@ -66,7 +69,22 @@ pub(crate) fn put(bytes: &mut Vec<u8>, n: u64)
     bytes.push_reserved((n % 128) as u8);
 }
 
+/// The bytes with those before a number's last one, `most` at most.
+// By value: whoever has the parts of the vector in registers need not put them into memory to lend it.
+fn with_front(bytes: Vec<u8>, n: u64, most: usize) -> Vec<u8>
+    requires small { n < 128 ^ most }
+    requires room { vec_len bytes + most ≤ vec_capacity bytes }
+    ensures added { result.items ≡ bytes.items ++ front most n }
+    ensures long { vec_len result ≤ vec_len bytes + most }
+    ensures capacity { vec_capacity result ≡ vec_capacity bytes }
+{
+    let mut bytes = bytes;
+    put_front(&mut bytes, n, most);
+    bytes
+}
+
 /// Adds the bytes of a number of 32 bits.
+#[inline(always)]
 fn put_word(bytes: &mut Vec<u8>, n: u32)
     requires room { vec_len bytes.old + 5 ≤ vec_capacity bytes.old }
     ensures added { bytes.new.items ≡ bytes.old.items ++ bytes_of n }
@@ -83,11 +101,15 @@ fn put_word(bytes: &mut Vec<u8>, n: u32)
         bytes.push_reserved((n % 128) as u8);
         return;
     }
-    put_front(bytes, (n / 128) as u64, 4);
+    // Handed on by value, and not lent, as `with_front` tells.
+    let alloc = *bytes.allocator();
+    let taken = mem::replace(bytes, Vec::new(alloc));
+    *bytes = with_front(taken, (n / 128) as u64, 4);
     bytes.push_reserved((n % 128) as u8);
 }
 
 /// Adds the bytes of numbers of 32 bits.
+#[inline(always)]
 pub(crate) fn put_words(bytes: &mut Vec<u8>, list: &[u32])
     requires room { vec_len bytes.old + 5 * length list.now ≤ vec_capacity bytes.old }
     ensures added { bytes.new.items ≡ bytes.old.items ++ flat_map bytes_of list.now }
@@ -98,8 +120,6 @@ pub(crate) fn put_words(bytes: &mut Vec<u8>, list: &[u32])
 }
 
 /// Adds the bytes of a long list; where memory runs out, nothing changes. What it has in common with the one before is not made again.
-// Not inlined, so that what puts a short list is short itself, and is inlined where many are put.
-#[inline(never)]
 fn put_long(bytes: &mut Vec<u8>, known: &mut Known, list: &[u32]) -> Result<(), AllocError>
     ensures added { OnOk result (bytes.new.items ≡ bytes.old.items ++ flat_map bytes_of list.now) }
     ensures unchanged { OnErr result (bytes.new.items ≡ bytes.old.items) }
@@ -126,9 +146,12 @@ fn put_numbers(bytes: &mut Vec<u8>, known: &mut Known, list: &[u32]) -> Result<(
     Ok(())
 }
 
-/// A list of so many numbers begins at a place. A short one is nothing to share.
+/// A list of fewer numbers isn't shared.
+const SHARED: usize = LONG / 2;
+
+/// A list of so many numbers begins at a place.
 fn mark(marks: &mut Vec<usize>, place: usize, size: usize) -> Result<(), AllocError> {
-    if size < LONG / 2 {
+    if size < SHARED {
         return Ok(());
     }
     marks.push(place)?;
@@ -167,7 +190,6 @@ impl Row {
     }
 
     /// Adds a list of numbers; where memory runs out, nothing changes. Rows that hold one for long share what is the same in long lists.
-    #[inline(always)]
     pub fn put_list(&mut self, list: &[u32]) -> Result<(), AllocError>
         ensures added { OnOk result (self.new ≡ self.old ++ list.now) }
         ensures unchanged { OnErr result (self.new ≡ self.old) }

@@ -88,12 +88,13 @@ pub fn read_paths(
 {
     // Where numbers are missing, the list in which they end is shorter, and none comes after it.
     let mut left = reader.number();
+    let mut path = Vec::new(alloc);
     'reading: while left > 0 {
         let Some(size) = reader.next() else {
             return Ok(());
         };
-        // Lists take whole ones alone, so each is read aside first.
-        let mut path = Vec::new(alloc);
+        // Lists take whole ones alone, so each is read aside first, in the room of the one before.
+        path.clear();
         read_choices(reader, &mut path, size)?;
         paths.push(&path)?;
         left -= 1;

@@ -10,7 +10,6 @@ use std::alloc::AllocError;
 use x_steps::{Cursor, Label, State, shared};
 
 /// Adds choices, or other numbers of 32 bits; where memory runs out, none.
-#[inline(always)]
 pub fn put_choices(row: &mut Row, choices: &[u32]) -> Result<(), AllocError>
     ensures code { OnOk result (row.new ≡ row.old ++ choices.now) }
     ensures unchanged { OnErr result (row.new ≡ row.old) }
@@ -20,7 +19,6 @@ pub fn put_choices(row: &mut Row, choices: &[u32]) -> Result<(), AllocError>
 }
 
 /// Adds a list of choices, with its length before it. Where memory runs out, some numbers may be there.
-#[inline(always)]
 pub fn put_path(row: &mut Row, path: &[u32]) -> Result<(), AllocError>
     ensures code { OnOk result (row.new ≡ row.old ++ path_code path.now) }
     ensures reads { OnOk result (ReadsPath path.now) }
@@ -38,9 +36,7 @@ pub fn put_paths(row: &mut Row, paths: &Lists) -> Result<(), AllocError>
 {
     // Their number goes first: so a reader knows where they end, with anything after them.
     row.put(paths.len() as u64)?;
-    for place in 0..paths.len() {
-        put_path(row, paths.list(place))?;
-    }
+    row.put_lists(paths)?;
     Ok(())
 }
 

@@ -1,4 +1,5 @@
-use Rattle.std.proofs.Common.{arith}
+use Rattle.std.proofs.Common.{◌∙◌, ◌++◌, ◌/◌, ap, arith}
+use Rattle.packed_rows.specs.Numbers.{front}
 use Rattle.packed_rows.proofs.NumberLemmas.{put_small, put_two, put_word}
 use Rattle.packed_rows.proofs.row.put_word.Goals as goal
 
@@ -10,4 +11,4 @@ returns-then-n-lt16384-clause-added c =
     put_two _ _ _ _ (omega (arith, c.if-n-lt128.false)) c.if-n-lt16384.true c.push_reserved-then-n-lt16384.ensures.items c.push_reserved-then-n-lt16384-2.ensures.items
 
 pub returns-clause-added : goal.returns-clause-added
-returns-clause-added c = put_word _ _ _ _ (omega (arith, c.ranges.n.fits)) c.put_front.ensures.added c.push_reserved-2.ensures.items
+returns-clause-added c = put_word _ _ _ _ (omega (arith, c.ranges.n.fits)) (c.with_front.ensures.added ∙ ap (λ bs. bs.items ++ front 4 (c.args.n / 128)) c.replace-taken.ensures.value) c.push_reserved-2.ensures.items

@@ -16,7 +16,7 @@ returns-in_default-clause-rest c = c.in_default.ensures.1 ∙ sym (none_after c.
 
 pub reading-preserved : goal.reading-preserved
 reading-preserved c =
-    let path = c.deref.ensures.value ∙ (rw c.new-path.ensures.items at c.in_ok-read_choices.ensures.choices) in
+    let path = c.deref.ensures.value ∙ (rw c.clear.ensures.items at c.in_ok-read_choices.ensures.choices) in
     record {
       paths = rw (c.in_ok-push.ensures.added, c.in_ok-read_choices.ensures.rest)
           (sym (paths_step c.in-Some.size c.reading.left c.reading.paths _ _ _ c.in-Some.ensures c.reading-test.true path) ∙ c.reading.invariant.paths);

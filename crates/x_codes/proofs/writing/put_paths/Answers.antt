@@ -1,17 +1,12 @@
-use Rattle.std.proofs.Common.{◌∷◌, ◌++◌, ◌∙◌, ap, length, arith}
-use Rattle.std.specs.List.{flat_map}
-use Rattle.std.proofs.lemmas.List.{take_all}
-use Rattle.x_codes.specs.StateCode.{path_code, paths_code}
-use Rattle.x_codes.proofs.StateLemmas.{reads_paths}
+use Rattle.std.proofs.Common.{[], arith}
+use Rattle.x_codes.proofs.StateLemmas.{choices_small, paths_put, reads_path, reads_paths}
 use Rattle.x_codes.proofs.writing.put_paths.Goals as goal
 
 pub returns-clause-code : goal.returns-clause-code
-unfolding paths_code
 returns-clause-code c =
-    c.loop-place.invariant.code
-    ∙ ap (λ l. c.args.row.now ++ length c.args.paths.now ∷ flat_map path_code l)
-    (take_all c.loop-place.place c.args.paths.now (let e = c.len-place-end.ensures in omega (arith, c.loop-place-test.false)))
+    paths_put _ _ _ _ c.args.paths.now c.len.ensures c.in_ok-put.ensures.added c.in_ok-put_lists.ensures.added
 
 pub returns-clause-reads : goal.returns-clause-reads
 returns-clause-reads c =
-    reads_paths c.args.paths.now (λ i l. c.loop-place.invariant.reads i (let e = c.len-place-end.ensures in omega (arith, c.loop-place-test.false)))
+    let words = c.in_ok-put_lists.ensures.words in
+    reads_paths c.args.paths.now (λ i l. reads_path _ (choices_small _ (λ k h. omega (arith, words i [] l k 0 h))))

@@ -1,0 +1,16 @@
+use Rattle.std.proofs.Common.{arith}
+use Rattle.packed_rows.proofs.RowLemmas.{one_list_more}
+use Rattle.packed_rows.proofs.row.lists.filled.Goals as goal
+
+pub filling-preserved : goal.filling-preserved
+filling-preserved c =
+    let i = c.filling.invariant in let list = c.list-list.result.now in
+    let more = one_list_more c.args.lists.now c.filling.place list _ _ i.row (omega (arith, c.filling-test.true, c.len.ensures)) c.list-list.ensures
+    (omega (arith, c.if-list-ge-SHARED.false)) c.put_short.ensures.words c.put_short.ensures.added in
+    record {
+      row = more.row;
+      added = λ ns e. more.added ns (i.added ns e);
+      words = λ a. more.words (i.words a);
+      further = omega (arith, i.further);
+      within = omega (arith, c.filling-test.true, c.len.ensures);
+    }

@@ -1,6 +1,7 @@
 -- How the line of a visit is kept, and goes on.
-use Rattle.std.proofs.Common.{◌≡◌, ℕ, zero, suc, ◌+◌, ◌<◌, ◌≤◌, List, [], ◌∷◌, ◌++◌, length, take, drop, map, get_or, decimal, codes, refl, sym, ap, ◌∙◌, arith, append_assoc, length-append}
+use Rattle.std.proofs.Common.{◌≡◌, ℕ, zero, suc, ◌+◌, ◌/◌, ◌%◌, ◌<◌, ◌≤◌, List, [], ◌∷◌, ◌++◌, length, take, drop, map, get_or, decimal, codes, refl, sym, ap, ◌∙◌, arith, append_assoc, length-append}
 use Rattle.std.proofs.lemmas.List.{map-append, map_more, flat_map_more, length-map, take-map, take_more, take-append-drop}
+use Rattle.std.proofs.lemmas.Fmt.{decimal_digit, decimal_step}
 use Rattle.std.proofs.lemmas.Grind.{flat_map-append}
 use Rattle.std.proofs.Math.Seq.{take-append_seam}
 use Rattle.text_lines.specs.Writing.{words_after, line_text, text_of}
@@ -85,6 +86,19 @@ one_more bytes ends path new_bytes new_ends choice end line b n e = record {
     place : end ≡ 5 + length (words_after words) + suc (length word)
     place =
         let m = ap length b in let k = ap length line.written in let s = length-append bytes (32 ∷ word) in let t = length-append key (words_after words) in omega (arith, n, m, k, s, t)
+
+-- a choice of one digit after a space, and one of two
+pub one_digit : (n : ℕ) (old mid new : List ℕ) → n < 10 → mid ≡ old ++ 32 ∷ [] → new ≡ mid ++ (48 + n) ∷ [] → new ≡ old ++ 32 ∷ decimal n
+one_digit n old mid new l m e =
+    e ∙ ap (λ bs. bs ++ (48 + n) ∷ []) m ∙ append_assoc old (32 ∷ []) ((48 + n) ∷ [])
+    ∙ ap (λ ds. old ++ 32 ∷ ds) (sym (decimal_digit n l))
+
+pub two_digits : (n : ℕ) (old mid next new : List ℕ) → 10 ≤ n → n < 100 → mid ≡ old ++ 32 ∷ [] → next ≡ mid ++ (48 + n / 10) ∷ []
+    → new ≡ next ++ (48 + n % 10) ∷ [] → new ≡ old ++ 32 ∷ decimal n
+two_digits n old mid next new l h m t e =
+    let first = one_digit (n / 10) old mid next (omega arith) m t in
+    e ∙ ap (λ bs. bs ++ (48 + n % 10) ∷ []) first ∙ append_assoc old (32 ∷ decimal (n / 10)) ((48 + n % 10) ∷ [])
+    ∙ ap (λ ds. old ++ 32 ∷ ds) (sym (decimal_step n (omega arith) (omega arith)))
 
 -- *a list of choices*
 

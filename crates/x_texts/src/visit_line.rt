@@ -1,5 +1,5 @@
 //! The line of a visit, kept for the next visit. In path order neighbours begin alike, and what they share is made into digits once.
-ghost use Rattle.std.specs.Prelude.{◌≡◌, ◌≤◌, ◌<◌, ◌++◌, ◌∷◌, ℕ, List, [], take, length, vec_len, IfOk, OnOk};
+ghost use Rattle.std.specs.Prelude.{◌≡◌, ◌≤◌, ◌<◌, ◌+◌, ◌++◌, ◌∷◌, ℕ, List, [], take, length, decimal, vec_len, vec_capacity, IfOk, OnOk};
 ghost use Rattle.x_texts.specs.Ends.{IsVisitLine};
 
 use itoa::Buffer;
@@ -42,6 +42,38 @@ fn put_word(bytes: &mut Vec<u8>, word: &[u8]) -> Result<(), AllocError>
     Ok(())
 }
 
+/// Adds a number of at most two digits after a space.
+#[inline(always)]
+fn put_small(bytes: &mut Vec<u8>, choice: u32)
+    requires small { choice < 100 }
+    requires room { vec_len bytes.old + 3 ≤ vec_capacity bytes.old }
+    ensures { bytes.new.items ≡ bytes.old.items ++ 32 ∷ decimal choice }
+{
+    bytes.push_reserved(b' ');
+    if choice < 10 {
+        bytes.push_reserved(b'0' + choice as u8);
+        return;
+    }
+    bytes.push_reserved(b'0' + (choice / 10) as u8);
+    bytes.push_reserved(b'0' + (choice % 10) as u8);
+}
+
+/// Adds a choice after a space. A small one is written here: a call of `format` takes longer.
+#[inline(always)]
+fn put_choice(bytes: &mut Vec<u8>, buffer: &mut Buffer, choice: u32) -> Result<(), AllocError>
+    ensures { OnOk result (bytes.new.items ≡ bytes.old.items ++ 32 ∷ decimal choice) }
+{
+    if choice >= 100 {
+        return put_word(bytes, buffer.format(choice).as_bytes());
+    }
+    // No call is made where there is room.
+    if bytes.capacity() - bytes.len() < 3 {
+        bytes.reserve(3)?;
+    }
+    put_small(bytes, choice);
+    Ok(())
+}
+
 impl VisitLine {
     /// The line of a visit without choices.
     pub(crate) fn new(alloc: Global) -> Result<VisitLine, AllocError>
@@ -75,11 +107,12 @@ impl VisitLine {
         ensures { (path : List ℕ) → IsVisitLine self.old.bytes.items self.old.ends.items path →
             OnOk result (IsVisitLine self.new.bytes.items self.new.ends.items (path ++ more.now)) }
     {
+        self.ends.reserve(more.len())?;
         // One buffer for all: a call of `write_number` for each isn't inlined.
         let mut buffer = Buffer::new();
         for choice in more {
-            put_word(&mut self.bytes, buffer.format(*choice).as_bytes())?;
-            self.ends.push(self.bytes.len())?;
+            put_choice(&mut self.bytes, &mut buffer, *choice)?;
+            self.ends.push_reserved(self.bytes.len());
         }
         Ok(())
     }

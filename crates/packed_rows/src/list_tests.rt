@@ -85,11 +85,38 @@ fn lists_at_once_are_put_as_one_by_one(rt: HostRuntime) -> Result<(), AllocError
     at_once.put_lists(&lists)?;
     let mut one_by_one = Row::new(rt.alloc());
     one_by_one.put(7)?;
+    one_by_one.put(48)?;
     for place in 0..lists.len() {
         one_by_one.put(lists.list(place).len() as u64)?;
         one_by_one.put_list(lists.list(place))?;
     }
     assert!(rt; at_once.size() == one_by_one.size());
     assert!(rt; at_once.reader().same(&one_by_one.reader()));
+    Ok(())
+}
+
+/// A number alone; how many lists there are, and two of them behind their lengths, the second with no number; and a list behind its length.
+static TOLD: [u64; 10] = [7, 2, 3, 5, 300, 70_000, 0, 2, 9, 200];
+
+/// A row has these numbers, and no more.
+fn assert_numbers(rt: &impl Abort, row: &Row, numbers: &[u64]) {
+    let mut reader = row.reader();
+    'reading: for n in numbers {
+        assert!(rt; reader.next() == Some(*n));
+    }
+    assert!(rt; reader.is_empty());
+}
+
+#[test]
+fn a_length_stands_before_its_list(rt: HostRuntime) -> Result<(), AllocError> {
+    let mut row = Row::new(rt.alloc());
+    row.put(7)?;
+    let mut lists = Lists::new(rt.alloc());
+    lists.push(&[5, 300, 70_000])?;
+    lists.push(&[])?;
+    row.put_lists(&lists)?;
+    row.put_with_length(&[9, 200])?;
+    assert!(rt; row.size() == 14);
+    assert_numbers(&rt, &row, &TOLD);
     Ok(())
 }

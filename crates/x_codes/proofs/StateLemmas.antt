@@ -8,7 +8,6 @@ use Rattle.x_steps.specs.declared.state.Label.TheVariants.{X1}
 use Rattle.x_steps.specs.declared.state.Cursor.{Cursor}
 use Rattle.x_steps.specs.declared.state.Cursor.TheVariants as cursor
 use Rattle.x_steps.specs.StateValue.{StateValue}
-use Rattle.packed_rows.specs.Numbers.{counted}
 use Rattle.x_codes.specs.StateCode.{choice_of, label_number, label_of, cursor_kind, cursor_choice, cursor_of}
 use Rattle.x_codes.specs.StateCode.{path_code, path_of, path_rest, state_code, state_of, state_rest, ReadsPath, ReadsState}
 use Rattle.x_codes.specs.StateCode.{shared_count, state_below, after_code, after_of, after_rest, ReadsAfter}
@@ -163,14 +162,6 @@ reads_each (p ∷ ps) e rest =
       ap (paths_at (suc (length ps))) all ∙ paths_first p (length ps) tail h ∙ ap (λ l. p ∷ l) more.0,
       ap (after_paths (suc (length ps))) all ∙ after_first p (length ps) tail h ∙ more.1,
     )
-
--- their code is put as their number, and then each behind its length
-pub paths_put : (row mid new : List ℕ) (n : ℕ) (paths : List (List ℕ)) → n ≡ length paths → mid ≡ row ++ n ∷ []
-    → new ≡ mid ++ flat_map counted paths → new ≡ row ++ paths_code paths
-unfolding paths_code path_code
-paths_put row mid new n paths l m e =
-    e ∙ ap (λ ns. ns ++ flat_map counted paths) (m ∙ ap (λ k. row ++ k ∷ []) l)
-    ∙ append_assoc row (length paths ∷ []) (flat_map counted paths)
 
 pub reads_paths : (paths : List (List ℕ)) → Each paths (length paths) → ReadsPaths paths
 unfolding paths_code paths_of paths_rest

@@ -18,26 +18,24 @@ pub fn put_choices(row: &mut Row, choices: &[u32]) -> Result<(), AllocError>
     row.put_list(choices)
 }
 
-/// Adds a list of choices, with its length before it. Where memory runs out, some numbers may be there.
+/// Adds a list of choices, with its length before it; where memory runs out, nothing changes.
 pub fn put_path(row: &mut Row, path: &[u32]) -> Result<(), AllocError>
     ensures code { OnOk result (row.new ≡ row.old ++ path_code path.now) }
+    ensures unchanged { OnErr result (row.new ≡ row.old) }
     ensures reads { OnOk result (ReadsPath path.now) }
 {
     // The length goes first, so that a reader can pass over a list.
-    row.put(path.len() as u64)?;
-    put_choices(row, path)?;
-    Ok(())
+    row.put_with_length(path)
 }
 
-/// Adds lists of choices, with their number before them. Where memory runs out, some numbers may be there.
+/// Adds lists of choices, with their number before them; where memory runs out, nothing changes.
 pub fn put_paths(row: &mut Row, paths: &Lists) -> Result<(), AllocError>
     ensures code { OnOk result (row.new ≡ row.old ++ paths_code paths.now) }
+    ensures unchanged { OnErr result (row.new ≡ row.old) }
     ensures reads { OnOk result (ReadsPaths paths.now) }
 {
     // Their number goes first: so a reader knows where they end, with anything after them.
-    row.put(paths.len() as u64)?;
-    row.put_lists(paths)?;
-    Ok(())
+    row.put_lists(paths)
 }
 
 /// The number of a step.

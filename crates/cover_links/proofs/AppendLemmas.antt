@@ -21,6 +21,7 @@ use Rattle.std.specs.Cmp.{both_ways as same_test}
 -- a block with the nodes that are shown, while it is built
 pub record Grows (p : ProblemValue) (shown : ℕ → ℕ → Bool) (active : ℕ → Bool) (es : List Entry) : Type 0 where
   pub size : length es ≡ size_of p
+  pub header : top_at es 0 ≡ 0
   pub shown_are : (j k : ℕ) → shown j k ≡ true → IsNode p j k
   pub rings : (j : ℕ) → 0 < j → j ≤ length p.names → IsRing (shown j) (node_index p j) (down_at es) (up_at es)
   pub counts : (j : ℕ) → 0 < j → j ≤ length p.names → top_at es j ≡ length (filter (shown j) (numbers (length p.options) 1))
@@ -294,6 +295,7 @@ module _ (p : ProblemValue) (active : ℕ → Bool) (problem : IsProblem p) (t t
   ks_grows : Grows p t' active ks
   ks_grows = record {
     size = length-joined vertical hs (up_at es j) x j x ∙ hs_length ∙ g.size;
+    header = ks_top 0 (λ e. absurd (omega arith)) ∙ ap (λ (e : Entry). e.top) (fs_other 0 (λ e. let w = x_high in absurd (omega arith))) ∙ g.header;
     shown_are = each (λ i m. IsNode p i m) node g.shown_are;
     rings = λ i b d. ring_of i b d (cases_eq i j);
     counts = λ i b d. count_of i b d (cases_eq i j);

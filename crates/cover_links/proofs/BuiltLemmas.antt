@@ -115,6 +115,7 @@ module _ (p : ProblemValue) (problem : IsProblem p) where
   heads_done = record {
     grows = record {
       size = heads_length (replicate (size_of p) blank) p.primary (length p.names) ∙ room;
+      header = ap (λ (w : Entry). w.top) header;
       shown_are = λ j k h. absurd (none j k h);
       rings = empty_ring;
       counts = λ j a b. ap (λ (w : Entry). w.top) (head j a b) ∙ sym (ap length (no_members j (length p.options) 1));
@@ -155,6 +156,7 @@ module _ (p : ProblemValue) (problem : IsProblem p) where
       let d = built_done (length p.options) (omega arith) in let g = d.grows in
       subst (λ f. Stands p f (active_of p []) (built p (length p.options))) all_shown (record {
         size = g.size;
+        header = g.header;
         shown_are = g.shown_are;
         rings = g.rings;
         counts = g.counts;

@@ -105,6 +105,7 @@ module _ (p : ProblemValue) (c : List ℕ) (i : ℕ) (shown : ℕ → ℕ → Bo
       let tops : (y : ℕ) → top_at (item_unlinked fs i) y ≡ top_at fs y = item_unlinked_kept fs i (λ e. e.top) (λ k e. refl) (λ k e. refl) in
       record {
         size = length-item_unlinked fs i ∙ s.size;
+        header = tops 0 ∙ s.header;
         shown_are = s.shown_are;
         rings = λ j a b x y f. let q = s.rings j a b x y f in (downs (node_index p j x) ∙ q.0, ups (node_index p j y) ∙ q.1);
         counts = λ j a b. tops j ∙ s.counts j a b;

@@ -49,6 +49,7 @@ few p t problem =
 -- items are in the row
 pub record Stands (p : ProblemValue) (shown : ℕ → ℕ → Bool) (active : ℕ → Bool) (es : List Entry) : Type 0 where
   pub size : length es ≡ size_of p
+  pub header : top_at es 0 ≡ 0
   pub shown_are : (j k : ℕ) → shown j k ≡ true → IsNode p j k
   pub rings : (j : ℕ) → 0 < j → j ≤ length p.names → IsRing (shown j) (node_index p j) (down_at es) (up_at es)
   pub counts : (j : ℕ) → 0 < j → j ≤ length p.names → top_at es j ≡ length (filter (shown j) (numbers (length p.options) 1))
@@ -230,6 +231,7 @@ module _ (p : ProblemValue) (shown : ℕ → ℕ → Bool) (active : ℕ → Boo
     gone_stands : Stands p (minus shown j k) active gone
     gone_stands = record {
       size = gone_length ∙ s.size;
+      header = gone_top 0 (λ e. absurd (omega arith)) ∙ s.header;
       shown_are = λ i m g. s.shown_are i m (minus_was shown j k i m g).0;
       rings = λ i a b. other_ring i a b (cases_eq i j);
       counts = λ i a b. other_count i a b (cases_eq i j);

@@ -20,6 +20,7 @@ pub mod BuildLemmas
 pub mod BlockLemmas
 pub mod SwapLemmas
 pub mod TableLemmas
+pub mod RowWalk
 pub mod LinkExamples
 pub mod LayoutLemmas
 pub mod FullRows

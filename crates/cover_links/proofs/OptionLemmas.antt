@@ -178,6 +178,7 @@ grows_aside p shown active es fs z problem g long high apart same =
     let node : (j k : ℕ) → shown j k ≡ true → entry_at fs (node_index p j k) ≡ entry_at es (node_index p j k) = λ j k h. same (node_index p j k) (apart j k h) in
     record {
       size = long ∙ g.size;
+      header = ap (λ (e : Entry). e.top) (head 0 (omega arith)) ∙ g.header;
       shown_are = g.shown_are;
       rings = λ j a b x y f. let q = g.rings j a b x y f in (ap (λ (e : Entry). e.down) (member j b x f.from) ∙ q.0, ap (λ (e : Entry). e.up) (member j b y (next_member (shown j) x y f.to)) ∙ q.1);
       counts = λ j a b. ap (λ (e : Entry). e.top) (head j b) ∙ g.counts j a b;

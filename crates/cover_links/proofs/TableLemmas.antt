@@ -1,6 +1,6 @@
 -- What is read off the links of a table.
-use Rattle.std.proofs.Common.{◌≡◌, ℕ, zero, suc, ◌+◌, ◌-◌, ◌*◌, ◌<◌, ◌≤◌, ◌⊎◌, inl, inr, ◌==◌, true, false, Option, Some, None, unwrap_or, List, [], ◌∷◌, ◌++◌, length, length-append, filter, get_or, take, refl, sym, ap, ◌∙◌, subst, arith}
-use Rattle.std.proofs.lemmas.Bool.{eq-eqb, ne_eqb, cases_lt}
+use Rattle.std.proofs.Common.{◌≡◌, ℕ, zero, suc, ◌+◌, ◌-◌, ◌*◌, ◌^◌, ◌<◌, ◌≤◌, ◌⊎◌, inl, inr, ◌==◌, true, false, Option, Some, None, unwrap_or, List, [], ◌∷◌, ◌++◌, length, length-append, filter, get_or, take, refl, sym, ap, ◌∙◌, subst, arith}
+use Rattle.std.proofs.lemmas.Bool.{eq-eqb, ne_eqb}
 use Rattle.std.proofs.Math.Seq.{take-append_seam}
 use Rattle.cover_problem.specs.Lists.{has, numbers, above, below, last_of}
 use Rattle.cover_problem.specs.Problem.{ProblemValue, option_at, size_of}
@@ -21,8 +21,8 @@ use Rattle.cover_links.specs.StandsFor.{block_of}
 use Rattle.cover_links.specs.Layout.{node_index, spacer_of, start_of, index_of}
 use Rattle.cover_links.specs.Ring.{Follows}
 use Rattle.cover_links.specs.Table.{IsTable, nonzero, IsHeadOrNode}
-use Rattle.cover_links.proofs.LayoutLemmas.{IsNode, IsRun, next_place, option_run, place_high, place_low, spacer_low, start_low, start_step, start_below, start_last, index_below}
-use Rattle.cover_links.proofs.BuildLemmas.{size_small, place_between, after_between, start_most}
+use Rattle.cover_links.proofs.LayoutLemmas.{IsNode, IsRun, next_place, option_run, place_high, place_low, spacer_low, start_low, start_last, index_below}
+use Rattle.cover_links.proofs.BuildLemmas.{size_small, place_between, after_between}
 use Rattle.cover_links.proofs.RingLemmas.{next_is, prev_is, last_to_head, next_member}
 use Rattle.cover_links.proofs.HidingLemmas.{Stands, down_at, up_at, right_at, top_at, bytes_at}
 use Rattle.cover_links.proofs.Covered.{shown_of, active_of, active_is, active_when}
@@ -37,6 +37,10 @@ linked_option (Some k) h = let f : k == 0 ≡ false = ne_eqb k 0 (λ e. let a = 
 -- a link to the node of the option that is found, or to the item's head where there is none
 abbrev pub IsLinkTo : List Entry → ℕ → ℕ → Option ℕ → Type 0
 IsLinkTo es j node found = (k : ℕ) × IsHeadOrNode es j node k × (nonzero k ≡ found)
+
+-- the head goes by another name
+pub by_head : {es : List Entry} {i j node : ℕ} {found : Option ℕ} → i ≡ j → IsLinkTo es j node found → IsLinkTo es i node found
+by_head {es} {i} {j} {node} {found} e to = subst (λ k. IsLinkTo es k node found) (sym e) to
 
 -- the parts of a table, of the value that contracts see
 pub at_view : {p : ProblemValue} {c : List ℕ} {items : ℕ} {block : List Entry} {starts : List ℕ} {room : ℕ} {v : TableValue} → record { problem = p; covered = c } ≡ v → IsTable p c items block starts room
@@ -58,6 +62,10 @@ module _ {p : ProblemValue} {c : List ℕ} {items : ℕ} {block : List Entry} {s
 
   pub item_low : (j : ℕ) → j ≤ length p.names → j < length block
   item_low j le = let s = (stands).size in omega arith
+
+  -- so many entries can be counted by an offset, and their bytes by an address
+  pub block_small : length block ≤ 8388608
+  block_small = let s = (stands).size in let z = size_small p t.problem in omega arith
 
   pub entry_low : (x : ℕ) → x < size_of p → x < length block
   entry_low x lt = let s = (stands).size in omega arith
@@ -193,19 +201,14 @@ module _ {p : ProblemValue} {c : List ℕ} {items : ℕ} {block : List Entry} {s
         subst (λ n. IsLinkTo block j n (below o (list_of p c j))) (sym (link ∙ ap (λ (e : Entry). e.up) (is ∙ ap (entry_at block) at)))
         (prev_leads j item.0 item.1 o (below o (list_of p c j)) f (λ k h. (below_is o 1 (list_of p c j) k (list_rises p c j) h).member))
 
-  -- where the nodes of an option lie, between the numbers read for it
-  module _ (j o : ℕ) {b e : ℕ} (some : 0 < o) (le : o ≤ length p.options) (h : has (option_at p o) j ≡ true) (first : b ≡ get_or starts (o - 1) b) (past : e ≡ get_or starts o e) where
+  -- where the option after the first k begins, as it is read
+  pub start_is : (k : ℕ) {b : ℕ} → k ≤ length p.options → b ≡ get_or starts k b → b ≡ start_of p k
+  start_is k {b} le read = read ∙ any_default starts k b 0 (let n = t.count in omega arith) ∙ t.each k le
+
+  -- the places of an option, from its first node to the one of an item that it has
+  module _ (j o : ℕ) (some : 0 < o) (le : o ≤ length p.options) (h : has (option_at p o) j ≡ true) where
     back : suc (o - 1) ≡ o
     back = omega arith
-
-    lt : o - 1 < length p.options
-    lt = omega arith
-
-    begin : b ≡ start_of p (o - 1)
-    begin = first ∙ any_default starts (o - 1) b 0 (let n = t.count in omega arith) ∙ t.each (o - 1) (omega arith)
-
-    finish : e ≡ suc (start_of p (o - 1) + length (option_at p o))
-    finish = past ∙ any_default starts o e 0 (let n = t.count in omega arith) ∙ t.each o le ∙ ap (start_of p) (sym back) ∙ start_step p (o - 1) lt ∙ ap (λ k. suc (start_of p (o - 1) + length (option_at p k))) back
 
     node : IsNode p j o
     node = record { some = some; within = le; has_item = h }
@@ -213,32 +216,24 @@ module _ {p : ProblemValue} {c : List ℕ} {items : ℕ} {block : List Entry} {s
     place_is : node_index p j o ≡ start_of p (o - 1) + index_of j (option_at p o)
     place_is = ap (node_index p j) (sym back) ∙ ap (λ k. start_of p (o - 1) + index_of j (option_at p k)) back
 
-    pub end_some : 1 ≤ e
-    end_some = let f = finish in omega arith
+    pub place_from : start_of p (o - 1) ≤ node_index p j o
+    place_from = let q = place_is in omega arith
 
-    pub place_from : b ≤ node_index p j o
-    place_from = let a = begin in let q = place_is in omega arith
+    pub place_inside : node_index p j o < length block
+    place_inside = let low = place_low p j o node in let s = (stands).size in omega arith
 
-    pub place_before : node_index p j o < e - 1
-    place_before = let f = finish in let q = place_is in let i = index_below (option_at p o) j h in omega arith
+    pub item_small : j < 2 ^ 28
+    item_small = let i = (option_is p o t.problem some le).items j h in let l = item_low j i.1 in let z = block_small in omega arith
 
+    -- of these places it alone tells the item
     pub top_here : top_at block (node_index p j o) ≡ j
     top_here = (stands).tops j o node
 
-    pub in_block : (x : ℕ) → b ≤ x → x < e - 1 → x < length block
-    in_block x low high =
-        let f = finish in let s = (stands).size in let c = start_below p (o - 1) o (omega arith) le in
-        pick (cases_lt o (length p.options)) (start_most p o le) c f s
-      where
-        pick : (o < length p.options) ⊎ (length p.options ≤ o) → start_of p o ≤ size_of p → start_of p (o - 1) + length (option_at p (suc (o - 1))) < start_of p o → e ≡ suc (start_of p (o - 1) + length (option_at p o)) → length block ≡ size_of p → x < length block
-        pick d most c f s = let q = ap (λ k. length (option_at p k)) back in omega arith
-
-    pub item_here : (x : ℕ) → b ≤ x → x < e - 1 → node_index p (top_at block x) o ≡ x
+    pub item_here : (x : ℕ) → start_of p (o - 1) ≤ x → x ≤ node_index p j o → node_index p (top_at block x) o ≡ x
     item_here x low high =
-        let a = begin in let f = finish in
+        let q = place_is in let i = index_below (option_at p o) j h in let size = ap (λ k. length (option_at p k)) back in
         let n : start_of p (o - 1) + (x - start_of p (o - 1)) ≡ x = omega arith in
-        let q = ap (λ k. length (option_at p k)) back in
-        let r = item_at (o - 1) (x - start_of p (o - 1)) lt (omega arith) in
+        let r = item_at (o - 1) (x - start_of p (o - 1)) (omega arith) (omega arith) in
         (λ i. node_index p (top_at block (sym n i)) (sym back i)) ∙ r ∙ n
 
   -- ---- covering and uncovering

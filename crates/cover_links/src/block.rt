@@ -115,6 +115,15 @@ impl<A: Allocator> Block<A> {
         })
     }
 
+    /// The entry that has so many bytes before it.
+    #[inline(always)]
+    pub(crate) fn read_at(&self, bytes: usize) -> Entry
+        requires { (i : ℕ) × (bytes ≡ i * entry_size) × (i < length self.now) }
+        ensures { (i : ℕ) → bytes ≡ i * entry_size → result ≡ entry_at self.now i }
+    {
+        self.row.read_at(self.base, bytes)
+    }
+
     /// The entry at an index.
     #[inline(always)]
     pub fn read(&self, index: u32) -> Entry

@@ -1,11 +1,12 @@
 //! The table whose lists are linked nodes.
-ghost use Rattle.std.specs.Prelude.{◌≡◌, ◌<◌, ◌≤◌, ◌+◌, ◌⊎◌, ◌==◌, nat_lt, ◌&&◌, cond, List, true, ℕ, [], ◌∷◌, length, IfOk, OnOk};
+ghost use Rattle.std.specs.Prelude.{◌≡◌, ◌<◌, ◌≤◌, ◌+◌, ◌*◌, ◌⊎◌, ◌==◌, nat_lt, ◌&&◌, cond, List, true, ℕ, [], ◌∷◌, length, IfOk, OnOk};
 ghost use Rattle.cover_problem.specs.Lists.{has};
 ghost use Rattle.cover_problem.specs.Problem as problem;
 ghost use Rattle.cover_problem.specs.Problem.{IsProblem, size_of};
 ghost use Rattle.cover_problem.specs.Table.{IsCoveredList};
 ghost use Rattle.cover_problem.specs.Covering.{list_of};
 ghost use Rattle.cover_links.specs.Entries.{entry_at};
+ghost use Rattle.cover_links.specs.Ownership.{entry_size};
 ghost use Rattle.cover_links.specs.Layout.{node_index};
 ghost use Rattle.cover_links.specs.StandsFor.{block_of};
 ghost use Rattle.cover_links.specs.Table as table;
@@ -17,6 +18,7 @@ use crate::hiding::{cover_item, uncover_item};
 use cover_problem::{Problem, Table};
 use std::alloc::{AllocError, Global};
 use std::marker::Model;
+use std::mem::size_of;
 use std::snapshot::Snapshot;
 
 /// A table of linked nodes in one raw block: covering an item costs the nodes of the options that it hides, and uncovering it
@@ -63,20 +65,20 @@ fn is_spacer(entry: Entry) -> bool
 
 /// The number of the option of an item's node, or none at the item's head.
 #[inline(always)]
-fn option_at(block: &Block, item: u32, node: u32) -> Option<u32>
+fn option_at(block: &Block, item: Offset, node: Offset) -> Option<u32>
     requires { (k : ℕ) × table.IsHeadOrNode block.now item node k }
     ensures { (k : ℕ) → table.IsHeadOrNode block.now item node k → result ≡ table.nonzero k }
 {
     // A head stands at its item's number, so the walk has come back to it.
-    if node == item {
+    if node.is(item) {
         return None;
     }
     // Past the option stands its spacer, which has the number: a node has no room for it. An option has few nodes.
-    let mut spacer = node + 1;
-    while !is_spacer(block.read(spacer)) {
-        spacer += 1;
+    let mut past = node.bytes() + size_of::<Entry>();
+    while !is_spacer(block.read_at(past)) {
+        past += size_of::<Entry>();
     }
-    Some(block.read(spacer).top.index())
+    Some(block.read_at(past).top.index())
 }
 
 impl LinkTable {
@@ -105,33 +107,31 @@ impl LinkTable {
         self.starts[self.starts.len() - 1]
     }
 
-    /// How many options an item's list has, as the block keeps it.
+    /// How many bytes stand before an item's node in an option that has it.
     #[inline(always)]
-    fn list_len(&self, item: u32) -> Offset
-        requires some { 0 < item }
-        requires within { item ≤ length self.now.problem.names }
-        ensures { result ≡ length (list_of self.now.problem self.now.covered item) }
-    {
-        self.block.read(item).top
-    }
-
-    /// An item's node in an option that has it.
-    fn node_of(&self, item: u32, option: u32) -> u32
+    fn node_of(&self, item: u32, option: u32) -> usize
         requires some { 0 < option }
         requires within { option ≤ length self.now.problem.options }
         requires has_item { has (problem.option_at self.now.problem option) item ≡ true }
-        ensures { result ≡ node_index self.now.problem item option }
+        ensures { result ≡ node_index self.now.problem item option * entry_size }
     {
-        let start = self.starts[(option - 1) as usize];
-        let end = self.starts[option as usize] - 1;
         // The search keeps the numbers of options, where the literature keeps nodes: so an option of few items is gone through.
-        for index in start..end {
-            if self.block.read(index).top.index() == item {
-                return index;
-            }
+        let mut here = self.starts[(option - 1) as usize] as usize * size_of::<Entry>();
+        let head = Offset::at(item);
+        while !self.block.read_at(here).top.is(head) {
+            here += size_of::<Entry>();
         }
-        // The option has the item, so this is never met.
-        start
+        here
+    }
+
+    /// How many bytes stand before the head that comes next in the row of active items: 0 before the header.
+    #[inline(always)]
+    fn head_after(&self, head: usize) -> usize
+        requires { (i : ℕ) × (head ≡ i * entry_size) × (i < size_of self.now.problem) }
+        ensures { (i : ℕ) → head ≡ i * entry_size →
+            result ≡ (entry_at (block_of self.now.problem self.now.covered) i).right * entry_size }
+    {
+        self.block.read_at(head).right as usize * size_of::<Entry>()
     }
 }
 
@@ -168,49 +168,51 @@ impl Table for LinkTable {
     }
 
     fn len(&self, item: u32) -> u32 {
-        self.list_len(item).index()
+        self.block.read(item).top.index()
     }
 
     #[inline(always)]
     fn choose(&self) -> u32 {
-        // The walk of every table, with lengths as they stand in the block: a search takes much of its time here.
-        let mut best = self.first_item().unwrap();
-        let mut least = self.list_len(best);
-        let mut item = best;
-        while let Some(next) = self.next_item(item) {
-            let len = self.list_len(next);
+        // The walk of every table, from head to head by the bytes before each: a search takes much of its time here. Which list is
+        // shorter can't be foretold, so only two values hang on it, and a compiler makes no jump of it. The header's length is 0: one
+        // test ends the walk there, and at an item with no option left, which is the one to be chosen.
+        let none = Offset::at(0);
+        let mut here = self.head_after(0);
+        let mut len = self.block.read_at(here).top;
+        let mut best = here;
+        let mut least = len;
+        while !len.is(none) {
             if len.is_below(least) {
-                if len.is(Offset::at(0)) {
-                    return next;
-                }
-                best = next;
+                best = here;
                 least = len;
             }
-            item = next;
+            here = self.head_after(here);
+            len = self.block.read_at(here).top;
         }
-        best
+        let head = if here == 0 { best } else { here };
+        (head / size_of::<Entry>()) as u32
     }
 
     fn first_option(&self, item: u32) -> Option<u32> {
-        let node = self.block.read(item).down.index();
-        option_at(&self.block, item, node)
+        let node = self.block.read(item).down;
+        option_at(&self.block, Offset::at(item), node)
     }
 
     fn last_option(&self, item: u32) -> Option<u32> {
-        let node = self.block.read(item).up.index();
-        option_at(&self.block, item, node)
+        let node = self.block.read(item).up;
+        option_at(&self.block, Offset::at(item), node)
     }
 
     fn next_option(&self, item: u32, option: u32) -> Option<u32> {
         let here = self.node_of(item, option);
-        let node = self.block.read(here).down.index();
-        option_at(&self.block, item, node)
+        let node = self.block.read_at(here).down;
+        option_at(&self.block, Offset::at(item), node)
     }
 
     fn prev_option(&self, item: u32, option: u32) -> Option<u32> {
         let here = self.node_of(item, option);
-        let node = self.block.read(here).up.index();
-        option_at(&self.block, item, node)
+        let node = self.block.read_at(here).up;
+        option_at(&self.block, Offset::at(item), node)
     }
 
     fn cover(&mut self, item: u32) {

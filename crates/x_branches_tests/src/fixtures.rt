@@ -105,3 +105,13 @@ pub fn runner_of<'p, T: Table>(
 pub fn whole<'p>(alloc: Global, problem: &'p Problem) -> Option<Runner<'p, PlainTable>> {
     runner_of(alloc, problem, &[], &[])
 }
+
+/// Takes so many steps; false where one is refused.
+pub fn advances<T: Table>(runner: &mut Runner<'_, T>, steps: u32) -> bool {
+    for _ in 0..steps {
+        if runner.advance().is_err() {
+            return false;
+        }
+    }
+    true
+}

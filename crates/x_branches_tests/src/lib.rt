@@ -18,3 +18,5 @@ mod order_tests;
 mod refusal_tests;
 #[cfg(test)]
 mod runner_tests;
+#[cfg(test)]
+mod stretch_tests;

@@ -1,11 +1,11 @@
 -- Rows, and the bytes of many numbers.
-use Rattle.std.proofs.Common.{◌≡◌, ℕ, zero, suc, Some, ◌+◌, ◌^◌, ◌<◌, ◌≤◌, All, map, List, [], ◌∷◌, ◌++◌, length, take, drop, get_or, refl, sym, ap, ◌∙◌, subst, arith, length-append, append_assoc}
+use Rattle.std.proofs.Common.{◌≡◌, ℕ, zero, suc, Some, ◌^◌, ◌<◌, ◌≤◌, All, map, List, [], ◌∷◌, ◌++◌, length, take, drop, get_or, refl, sym, ap, ◌∙◌, subst, arith, length-append, append_assoc}
 use Rattle.std.proofs.lemmas.List.{append-nil, map-append, length-map, length-take-le}
-use Rattle.std.proofs.Math.Seq.{take-append_seam, take-suc}
+use Rattle.std.proofs.Math.Seq.{take-append_seam}
 use Rattle.std.proofs.lemmas.List.Elements.{All-push, All-pop}
 use Rattle.std.proofs.lemmas.Grind.{flat_map-append}
 use Rattle.std.specs.List.{flat_map}
-use Rattle.packed_rows.specs.Numbers.{bytes_of, numbers_of, with_length, IsWhole, IsSpelled, IsRow}
+use Rattle.packed_rows.specs.Numbers.{bytes_of, numbers_of, IsWhole, IsSpelled, IsRow}
 use Rattle.packed_rows.specs.Pieces.{row_bytes, ArePlaces, Grows, place_of}
 use Rattle.cover_problem.specs.FlatLists.{lists_at, start_at, IsParted}
 use Rattle.packed_rows.specs.Rows.{rows_bytes, rows_at, KeepsPieces}
@@ -144,54 +144,6 @@ whole_all bs [] w a = subst IsRow (sym (append-nil bs)) w
 whole_all bs (n ∷ ns) w a =
     subst IsRow (append_assoc bs (bytes_of n) (flat_map bytes_of ns))
     (whole_all (bs ++ bytes_of n) ns (whole_put bs n w (a 0 0 (omega arith))) (λ k d l. a (suc k) d (omega arith)))
-
--- ---- lists, each behind its length
-
-fits_with_length : (list : List ℕ) → length list < 2 ^ 64 → All (λ n. n < 2 ^ 32) list → All (λ n. n < 2 ^ 64) (with_length list)
-fits_with_length list h a zero d l = h
-fits_with_length list h a (suc k) d l = let w = a k d (omega arith) in omega (arith, w)
-
--- the numbers of lists have 32 bits
-abbrev pub AreWords : List (List ℕ) → Type 0
-AreWords lists = All (All (λ n. n < 2 ^ 32)) lists
-
-pub more_words : (lists : List (List ℕ)) (k : ℕ) (list : List ℕ) → k < length lists → list ≡ get_or lists k [] → All (λ n. n < 2 ^ 32) list
-    → AreWords (take k lists) → AreWords (take (k + 1) lists)
-more_words lists k list l e w a =
-    let one : k + 1 ≡ suc k = omega arith in
-    subst AreWords (sym (ap (λ n. take n lists) one ∙ take-suc lists k [] l ∙ (λ j. take k lists ++ sym e j ∷ [])))
-    (All-push (All (λ n. n < 2 ^ 32)) (take k lists) list a w)
-
-with_length_more : (lists : List (List ℕ)) (k : ℕ) → k < length lists
-    → flat_map with_length (take (k + 1) lists) ≡ flat_map with_length (take k lists) ++ with_length (get_or lists k [])
-with_length_more lists k l =
-    let one : k + 1 ≡ suc k = omega arith in let list = get_or lists k [] in
-    ap (λ n. flat_map with_length (take n lists)) one ∙ ap (flat_map with_length) (take-suc lists k [] l)
-    ∙ flat_map-append with_length (take k lists) (list ∷ []) ∙ ap (λ ns. flat_map with_length (take k lists) ++ ns) (append-nil (with_length list))
-
-pub adds_list : (lists : List (List ℕ)) (k : ℕ) (list ns was new : List ℕ) → k < length lists → list ≡ get_or lists k []
-    → was ≡ ns ++ flat_map with_length (take k lists) → new ≡ was ++ with_length list → new ≡ ns ++ flat_map with_length (take (k + 1) lists)
-adds_list lists k list ns was new l e w n =
-    n ∙ (λ j. w j ++ with_length (e j)) ∙ append_assoc ns (flat_map with_length (take k lists)) (with_length (get_or lists k []))
-    ∙ ap (λ ms. ns ++ ms) (sym (with_length_more lists k l))
-
--- one list more in a row of so many
-pub record HasOneMore (lists : List (List ℕ)) (k : ℕ) (bs new : List ℕ) : Type 0 where
-  pub row : IsRow new
-  pub added : (ns : List ℕ) → numbers_of bs ≡ ns ++ flat_map with_length (take k lists) →
-      numbers_of new ≡ ns ++ flat_map with_length (take (k + 1) lists)
-  pub words : AreWords (take k lists) → AreWords (take (k + 1) lists)
-
-pub one_list_more : (lists : List (List ℕ)) (k : ℕ) (list bs new : List ℕ) → IsRow bs → k < length lists → list ≡ get_or lists k []
-    → length list < 2 ^ 64 → All (λ n. n < 2 ^ 32) list → new ≡ bs ++ flat_map bytes_of (with_length list) → HasOneMore lists k bs new
-one_list_more lists k list bs new r l e h w n =
-    let f = fits_with_length list h w in
-    record {
-      row = subst IsRow (sym n) (whole_all bs (with_length list) r f);
-      added = λ ns was. adds_list lists k list ns (numbers_of bs) (numbers_of new) l e was
-          (ap numbers_of n ∙ reads_all bs (with_length list) r.whole f);
-      words = more_words lists k list l e w;
-    }
 
 -- ---- one row less
 

@@ -77,6 +77,7 @@ fn lists_of(alloc: Global) -> Result<Lists, AllocError> {
     Ok(lists)
 }
 
+/// No two neighbours have one length, so each list stands behind twice its own.
 #[test]
 fn lists_at_once_are_put_as_one_by_one(rt: HostRuntime) -> Result<(), AllocError> {
     let lists = lists_of(rt.alloc())?;
@@ -87,16 +88,13 @@ fn lists_at_once_are_put_as_one_by_one(rt: HostRuntime) -> Result<(), AllocError
     one_by_one.put(7)?;
     one_by_one.put(48)?;
     for place in 0..lists.len() {
-        one_by_one.put(lists.list(place).len() as u64)?;
+        one_by_one.put(2 * lists.list(place).len() as u64)?;
         one_by_one.put_list(lists.list(place))?;
     }
     assert!(rt; at_once.size() == one_by_one.size());
     assert!(rt; at_once.reader().same(&one_by_one.reader()));
     Ok(())
 }
-
-/// A number alone; how many lists there are, and two of them behind their lengths, the second with no number; and a list behind its length.
-static TOLD: [u64; 10] = [7, 2, 3, 5, 300, 70_000, 0, 2, 9, 200];
 
 /// A row has these numbers, and no more.
 fn assert_numbers(rt: &impl Abort, row: &Row, numbers: &[u64]) {
@@ -107,16 +105,112 @@ fn assert_numbers(rt: &impl Abort, row: &Row, numbers: &[u64]) {
     assert!(rt; reader.is_empty());
 }
 
+/// Lists, all numbers that tell them, and how many bytes these take.
+struct Told(&'static [&'static [u32]], &'static [u64], usize);
+
+static TOLD: [Told; 8] = [
+    // Steps of 0 and 63 take a byte; after 72, 136 is a step of 64.
+    Told(&[&[9], &[9], &[72], &[136]], &[4, 2, 9, 1, 127, 2, 136], 8),
+    Told(
+        &[&[5, 300, 70000], &[5, 300, 70001], &[5, 300, 70003]],
+        &[3, 6, 5, 300, 70000, 3, 5],
+        10,
+    ),
+    // The last number falls.
+    Told(&[&[3, 9], &[3, 8]], &[2, 4, 3, 9, 4, 3, 8], 7),
+    // Another first number, in the second list and in the third, and then the same one.
+    Told(
+        &[&[1, 1, 5], &[2, 1, 5], &[2, 2, 5], &[2, 2, 6]],
+        &[4, 6, 1, 1, 5, 6, 2, 1, 5, 6, 2, 2, 5, 3],
+        14,
+    ),
+    // Another length.
+    Told(
+        &[&[1, 5], &[1, 5, 6], &[1, 5]],
+        &[3, 4, 1, 5, 6, 1, 5, 6, 4, 1, 5],
+        11,
+    ),
+    // No number, and what stood before such a list.
+    Told(&[&[], &[], &[7], &[], &[7]], &[5, 0, 0, 2, 7, 0, 2, 7], 8),
+    // Numbers of five bytes. None is a step after the last number of 32 bits.
+    Told(
+        &[&[4294967294], &[4294967295], &[0]],
+        &[3, 2, 4294967294, 3, 2, 0],
+        10,
+    ),
+    Told(&[], &[0], 1),
+];
+
+/// Lists are told by these numbers, in so many bytes.
+fn assert_told(rt: &impl Abort, alloc: Global, told: &Told) -> Result<(), AllocError> {
+    let mut lists = Lists::new(alloc);
+    'pushing: for list in told.0 {
+        lists.push(list)?;
+    }
+    let mut row = Row::new(alloc);
+    row.put_lists(&lists)?;
+    assert_numbers(rt, &row, told.1);
+    assert!(rt; row.size() == told.2);
+    Ok(())
+}
+
+#[test]
+fn a_list_is_told_after_the_one_before_it(rt: HostRuntime) -> Result<(), AllocError> {
+    for told in &TOLD {
+        assert_told(&rt, rt.alloc(), told)?;
+    }
+    Ok(())
+}
+
+/// A list of so many numbers, and then as many more as there are steps, each in which the last number rises by 2.
+fn lists_in_steps(alloc: Global, count: u32, steps: u32) -> Result<Lists, AllocError> {
+    let mut list = list_of(alloc, count, count)?;
+    let mut lists = Lists::new(alloc);
+    lists.push(&list)?;
+    'pushing: for _ in 0..steps {
+        let last = list.pop().unwrap_or(0);
+        list.push(last.wrapping_add(2))?;
+        lists.push(&list)?;
+    }
+    Ok(lists)
+}
+
+/// However long lists are, each takes a byte where its last number alone rises: so more than room is made for at once.
+fn assert_steps(rt: &impl Abort, alloc: Global, count: u32, before: u64) -> Result<(), AllocError> {
+    let mut one = Row::new(alloc);
+    one.put_lists(&lists_in_steps(alloc, count, 0)?)?;
+    let lists = lists_in_steps(alloc, count, 500)?;
+    let mut row = Row::new(alloc);
+    row.put_lists(&lists)?;
+    // The number of lists takes a byte more.
+    assert!(rt; row.size() == one.size() + 501);
+    let mut reader = row.reader();
+    'passing: for _ in 0..before {
+        reader.number();
+    }
+    'reading: for _ in 0..500 {
+        assert!(rt; reader.next() == Some(5));
+    }
+    assert!(rt; reader.is_empty());
+    Ok(())
+}
+
+#[test]
+fn long_lists_in_steps_take_a_byte_each(rt: HostRuntime) -> Result<(), AllocError> {
+    // Before the steps stand the number of lists, twice the length, and the list.
+    assert_steps(&rt, rt.alloc(), 3, 5)?;
+    assert_steps(&rt, rt.alloc(), 31, 33)?;
+    assert_steps(&rt, rt.alloc(), 32, 34)?;
+    assert_steps(&rt, rt.alloc(), 70, 72)
+}
+
 #[test]
 fn a_length_stands_before_its_list(rt: HostRuntime) -> Result<(), AllocError> {
     let mut row = Row::new(rt.alloc());
     row.put(7)?;
-    let mut lists = Lists::new(rt.alloc());
-    lists.push(&[5, 300, 70_000])?;
-    lists.push(&[])?;
-    row.put_lists(&lists)?;
     row.put_with_length(&[9, 200])?;
-    assert!(rt; row.size() == 14);
-    assert_numbers(&rt, &row, &TOLD);
+    row.put_with_length(&[])?;
+    assert!(rt; row.size() == 6);
+    assert_numbers(&rt, &row, &[7, 2, 9, 200, 0]);
     Ok(())
 }

@@ -1,14 +1,15 @@
-use Rattle.std.proofs.Common.{◌≡◌, ◌-◌, ◌≤◌, ◌++◌, ℕ, List, length, take}
-use Rattle.std.specs.List.{flat_map}
-use Rattle.packed_rows.specs.Numbers.{numbers_of, with_length, IsRow}
-use Rattle.packed_rows.proofs.RowLemmas.{AreWords}
+use Rattle.std.proofs.Common.{◌≡◌, ◌-◌, ◌≤◌, ◌++◌, ◌∷◌, [], ℕ, List, length, take, get_or}
+use Rattle.packed_rows.specs.Neighbours.{told_lists}
+use Rattle.packed_rows.specs.Numbers.{numbers_of, IsRow}
+use Rattle.packed_rows.proofs.NeighbourLemmas.{AreWords}
 use Rattle.packed_rows.proofs.row.lists.filled.Given as goal
 
 abbrev pub invariant-filling : goal.invariant-filling
 invariant-filling l = record {
   row : IsRow l.bytes.items;
-  added : (ns : List ℕ) → numbers_of l.fn.bytes.items ≡ ns ++ flat_map with_length (take l.fn.from l.lists) →
-      numbers_of l.bytes.items ≡ ns ++ flat_map with_length (take l.place l.lists);
+  before : l.before ≡ get_or ([] ∷ l.lists) l.place [];
+  added : (ns : List ℕ) → numbers_of l.fn.bytes.items ≡ ns ++ told_lists (take l.fn.from l.lists) →
+      numbers_of l.bytes.items ≡ ns ++ told_lists (take l.place l.lists);
   words : AreWords (take l.fn.from l.lists) → AreWords (take l.place l.lists);
   further : l.fn.from ≤ l.place;
   within : l.place ≤ length l.lists;

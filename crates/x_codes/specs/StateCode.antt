@@ -1,7 +1,7 @@
 -- States as numbers of a row, and back. What a row tells is read in whole: a number too many is a choice too many, and one that is missing
 -- is 0.
-use Rattle.std.specs.Prelude.{ℕ, zero, suc, ◌≡◌, ◌%◌, ◌==◌, List, [], ◌∷◌, ◌++◌, length, take, drop, map, slice_index, if◌then◌else◌}
-use Rattle.std.specs.List.{flat_map}
+use Rattle.std.specs.Prelude.{ℕ, zero, suc, ◌≡◌, ◌/◌, ◌%◌, ◌==◌, List, [], ◌∷◌, ◌++◌, length, take, drop, map, slice_index, if◌then◌else◌}
+use Rattle.packed_rows.specs.Neighbours.{raised, told_lists}
 use Rattle.x_steps.specs.declared.state.Label.{Label}
 use Rattle.x_steps.specs.declared.state.Label.TheVariants.{X1, X2, X3, X4, X5, X6, X7, X8, Done}
 use Rattle.x_steps.specs.declared.state.Cursor.{Cursor}
@@ -108,27 +108,36 @@ after_of before ns = record {
 unfoldable pub after_rest : List ℕ → List ℕ
 after_rest ns = state_rest (later ns)
 
--- ---- lists of lists of choices: how many there are, and then each
+-- ---- lists of lists of choices: how many there are, and then what tells each after the one before it
 
--- how many lists there are, and then each as its code
+-- how many lists there are, and then what tells them
 unfoldable pub paths_code : List (List ℕ) → List ℕ
-paths_code paths = length paths ∷ flat_map path_code paths
+paths_code paths = length paths ∷ told_lists paths
 
--- so many lists, or as many as there are
-unfoldable pub paths_at : ℕ → List ℕ → List (List ℕ)
-paths_at zero ns = []
-paths_at (suc count) [] = []
-paths_at (suc count) (n ∷ ns) = path_of (n ∷ ns) ∷ paths_at count (path_rest (n ∷ ns))
+-- the list that a number tells, after the list before it and with what comes after the number: an odd one the list before with its last
+-- choice raised, an even one as many choices as half of it
+unfoldable pub next_path : List ℕ → ℕ → List ℕ → List ℕ
+next_path before n ns = map choice_of (if n % 2 == 1 then raised (n / 2) before else take (n / 2) ns)
+
+-- what comes after such a list
+unfoldable pub next_rest : ℕ → List ℕ → List ℕ
+next_rest n ns = if n % 2 == 1 then ns else drop (n / 2) ns
+
+-- so many lists after a list, or as many as there are
+unfoldable pub paths_at : ℕ → List ℕ → List ℕ → List (List ℕ)
+paths_at zero before ns = []
+paths_at (suc count) before [] = []
+paths_at (suc count) before (n ∷ ns) = next_path before n ns ∷ paths_at count (next_path before n ns) (next_rest n ns)
 
 -- what comes after them
 unfoldable pub after_paths : ℕ → List ℕ → List ℕ
 after_paths zero ns = ns
 after_paths (suc count) [] = []
-after_paths (suc count) (n ∷ ns) = after_paths count (path_rest (n ∷ ns))
+after_paths (suc count) (n ∷ ns) = after_paths count (next_rest n ns)
 
 -- the lists of choices at the head of a row
 unfoldable pub paths_of : List ℕ → List (List ℕ)
-paths_of ns = paths_at (slice_index ns 0) (later ns)
+paths_of ns = paths_at (slice_index ns 0) [] (later ns)
 
 -- what comes after them all
 unfoldable pub paths_rest : List ℕ → List ℕ

@@ -1,7 +1,9 @@
 //! States made of their numbers.
-ghost use Rattle.std.specs.Prelude.{◌≡◌, ◌++◌, length, take, drop, map, IfOk, OnOk};
+ghost use Rattle.std.specs.Prelude.{◌≡◌, ◌++◌, ◌<◌, ◌^◌, length, take, drop, map, IfOk, OnOk};
+ghost use Rattle.packed_rows.specs.Neighbours.{raised};
 ghost use Rattle.x_steps.specs.StateView.{state_value};
 ghost use Rattle.x_codes.specs.StateCode.{choice_of, label_of, cursor_of};
+ghost use Rattle.x_codes.specs.StateCode.{next_path, next_rest};
 ghost use Rattle.x_codes.specs.StateCode.{after_of, after_rest, path_of, path_rest, paths_of, paths_rest, state_of, state_rest};
 
 use cover_problem::Lists;
@@ -77,6 +79,36 @@ pub fn read_path(alloc: Global, reader: &mut Reader<'_>) -> Result<Vec<u32>, All
     Ok(path)
 }
 
+/// Raises the last of some choices.
+#[inline(always)]
+fn raise(path: &mut Vec<u32>, step: u64)
+    requires { step < 2 ^ 63 }
+    ensures { path.new.items ≡ map choice_of (raised step path.old.items) }
+{
+    let count = path.len();
+    // No list without choices was put with a step to the next one: where one is read so, it stays as it is.
+    if count == 0 {
+        return;
+    }
+    let last = path[count - 1];
+    path[count - 1] = choice(last as u64 + step);
+}
+
+/// Reads the list that a number tells after the one before it, in the place of that one. Where memory runs out, a part of it is there.
+#[inline(always)]
+fn read_next(reader: &mut Reader<'_>, path: &mut Vec<u32>, n: u64) -> Result<(), AllocError>
+    ensures list { OnOk result (path.new.items ≡ next_path path.old.items n reader.old) }
+    ensures rest { OnOk result (reader.new ≡ next_rest n reader.old) }
+{
+    if n % 2 == 1 {
+        raise(path, n / 2);
+        return Ok(());
+    }
+    path.clear();
+    read_choices(reader, path, n / 2)?;
+    Ok(())
+}
+
 /// Reads lists of choices, and adds them to lists. Where memory runs out, some may be there.
 pub fn read_paths(
     alloc: Global,
@@ -90,12 +122,11 @@ pub fn read_paths(
     let mut left = reader.number();
     let mut path = Vec::new(alloc);
     'reading: while left > 0 {
-        let Some(size) = reader.next() else {
+        let Some(n) = reader.next() else {
             return Ok(());
         };
-        // Lists take whole ones alone, so each is read aside first, in the room of the one before.
-        path.clear();
-        read_choices(reader, &mut path, size)?;
+        // Lists take whole ones alone, so each is read aside first, in the room of the one before, which most have but for a number.
+        read_next(reader, &mut path, n)?;
         paths.push(&path)?;
         left -= 1;
     }
@@ -182,6 +213,16 @@ pub fn skip_after(reader: &mut Reader<'_>)
     skip_state(reader);
 }
 
+/// Reads over what is left of a list after the number that tells it, without memory.
+fn skip_next(reader: &mut Reader<'_>, n: u64)
+    ensures { reader.new ≡ next_rest n reader.old }
+{
+    // An odd number stands alone.
+    if n % 2 == 0 {
+        skip(reader, n / 2);
+    }
+}
+
 /// Reads over lists of choices, without memory; how many there are.
 pub fn skip_paths(reader: &mut Reader<'_>) -> u64
     ensures count { result ≡ length (paths_of reader.old) }
@@ -190,11 +231,11 @@ pub fn skip_paths(reader: &mut Reader<'_>) -> u64
     let told = reader.number();
     let mut left = told;
     'skipping: while left > 0 {
-        let Some(size) = reader.next() else {
+        let Some(n) = reader.next() else {
             // As many lists as began. Of a row that was put as lists, none is missing.
             return told - left;
         };
-        skip(reader, size);
+        skip_next(reader, n);
         left -= 1;
     }
     told

@@ -94,15 +94,75 @@ fn lists_are_read_back(rt: HostRuntime) -> Result<(), AllocError> {
     assert_read_back(&rt, alloc, &paths)
 }
 
-/// Where fewer lists are there than the row tells, these are read and counted.
+/// Each of them after the one before it: a step of 63, one of 64, the same list, a last choice that falls, another first one, another
+/// length, and steps at the last choice of all.
+static NEIGHBOURS: [&[u32]; 11] = [
+    &[5, 9],
+    &[5, 72],
+    &[5, 136],
+    &[5, 136],
+    &[5, 8],
+    &[6, 8],
+    &[6, 8, 8],
+    &[],
+    &[4294967294],
+    &[4294967295],
+    &[4294967295],
+];
+
 #[test]
-fn lists_that_are_missing_are_none(rt: HostRuntime) -> Result<(), AllocError> {
+fn neighbours_are_read_back(rt: HostRuntime) -> Result<(), AllocError> {
     let alloc = rt.alloc();
-    let mut row = Row::new(alloc);
-    put_choices(&mut row, &[3, 2, 8, 9])?;
     let mut paths = Lists::new(alloc);
-    read_paths(alloc, &mut row.reader(), &mut paths)?;
-    assert!(rt; paths.len() == 1);
-    assert!(rt; skip_paths(&mut row.reader()) == 1);
+    for path in &NEIGHBOURS {
+        paths.push(path)?;
+    }
+    assert_read_back(&rt, alloc, &paths)
+}
+
+/// The numbers of a row, the lists that they tell, and the number that is left.
+struct Told(&'static [u32], &'static [&'static [u32]], Option<u64>);
+
+static TOLD: [Told; 7] = [
+    // Where fewer lists are there than the row tells, these are read and counted.
+    Told(&[3, 4, 8, 9], &[&[8, 9]], None),
+    // So is a list that lacks choices.
+    Told(&[3, 6, 8, 9], &[&[8, 9]], None),
+    Told(&[0, 7], &[], Some(7)),
+    // A list without choices has no last one.
+    Told(&[2, 3, 5, 7], &[&[], &[]], Some(7)),
+    Told(&[3, 0, 1, 2, 9, 7], &[&[], &[], &[9]], Some(7)),
+    // After the last choice of all comes the first. Any step is read, also one of 64.
+    Told(&[2, 2, 4294967295, 3, 7], &[&[4294967295], &[0]], Some(7)),
+    Told(
+        &[3, 4, 5, 4294967290, 129, 4294967295],
+        &[&[5, 4294967290], &[5, 58], &[5, 2147483705]],
+        None,
+    ),
+];
+
+/// The numbers tell these lists, and leave this number.
+fn assert_told(rt: &impl Abort, alloc: Global, told: &Told) -> Result<(), AllocError> {
+    let mut row = Row::new(alloc);
+    put_choices(&mut row, told.0)?;
+    let mut paths = Lists::new(alloc);
+    let mut reader = row.reader();
+    read_paths(alloc, &mut reader, &mut paths)?;
+    assert!(rt; reader.next() == told.2);
+    assert!(rt; paths.len() == told.1.len());
+    for (place, path) in told.1.iter().enumerate() {
+        assert!(rt; paths.list(place) == *path);
+    }
+    let mut skipped = row.reader();
+    assert!(rt; skip_paths(&mut skipped) == told.1.len() as u64);
+    assert!(rt; skipped.next() == told.2);
+    Ok(())
+}
+
+#[test]
+fn lists_are_read_of_any_numbers(rt: HostRuntime) -> Result<(), AllocError> {
+    for told in &TOLD {
+        assert_told(&rt, rt.alloc(), told)?;
+    }
     Ok(())
 }

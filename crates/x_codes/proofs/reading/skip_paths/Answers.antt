@@ -1,4 +1,4 @@
-use Rattle.std.proofs.Common.{◌-◌, ◌∙◌, ap, sym, refl, length, arith}
+use Rattle.std.proofs.Common.{◌-◌, ◌∙◌, ap, sym, refl, [], length, arith}
 use Rattle.x_codes.specs.StateCode.{paths_at, paths_of, paths_rest}
 use Rattle.x_codes.proofs.StateLemmas.{paths_after, paths_count, no_paths, none_after, all_paths, all_after}
 use Rattle.x_codes.proofs.reading.skip_paths.Goals as goal
@@ -13,7 +13,7 @@ skipping-init c = record {
 
 pub returns-in_default-clause-count : goal.returns-in_default-clause-count
 returns-in_default-clause-count c =
-    let n = ap length (no_paths c.skipping.left _ c.in_default.ensures.0) in
+    let n = ap length (no_paths c.skipping.left [] _ c.in_default.ensures.0) in
     let s = c.skipping.invariant.count in
     omega (arith, c.skipping.invariant.within)
 
@@ -24,17 +24,17 @@ pub skipping-preserved : goal.skipping-preserved
 skipping-preserved c = record {
   within = omega (arith, c.skipping.invariant.within);
   count =
-      let n = paths_count c.in-Some.size c.skipping.left _ _ c.in-Some.ensures c.skipping-test.true in
-      let e = ap (λ l. length (paths_at (c.skipping.left - 1) l)) c.skip.ensures in
+      let n = paths_count c.in-Some.n c.skipping.left _ _ c.in-Some.ensures c.skipping-test.true in
+      let e = ap (λ l. length (paths_at (c.skipping.left - 1) [] l)) c.skip_next.ensures in
       let s = c.skipping.invariant.count in
       omega (arith, c.skipping-test.true);
-  rest = rw c.skip.ensures
-      (sym (paths_after c.in-Some.size c.skipping.left _ _ c.in-Some.ensures c.skipping-test.true) ∙ c.skipping.invariant.rest);
+  rest = rw c.skip_next.ensures
+      (sym (paths_after c.in-Some.n c.skipping.left _ _ c.in-Some.ensures c.skipping-test.true) ∙ c.skipping.invariant.rest);
 }
 
 pub returns-clause-count : goal.returns-clause-count
 returns-clause-count c =
-    let n = ap length (all_paths c.skipping.left c.skipping.reader c.skipping-test.false) in
+    let n = ap length (all_paths c.skipping.left [] c.skipping.reader c.skipping-test.false) in
     let s = c.skipping.invariant.count in
     omega (arith, c.skipping-test.false)
 

@@ -13,7 +13,7 @@ use Rattle.x_steps.specs.Steps.{next}
 use Rattle.x_steps.specs.Run.{after, ReachesIn, steps_between}
 use Rattle.x_steps.specs.Rank.{rank}
 use Rattle.x_steps.proofs.RunLemmas.{start_fits, steps_between_is}
-use Rattle.x_codes.specs.StateCode.{after_of, path_of, path_rest, state_of, state_rest, paths_at, after_paths, paths_of, paths_rest}
+use Rattle.x_codes.specs.StateCode.{after_of, path_of, path_rest, state_of, state_rest, next_path, next_rest, paths_at, after_paths, paths_of, paths_rest}
 use Rattle.x_branches.specs.declared.fault.RunnerFault.TheVariants.{AtBranchEnd, NotUntried, NotAtMark, StretchFull, OutOfMemory}
 use Rattle.x_branches.specs.declared.fault.CutFault.TheVariants as cuts
 use Rattle.x_branches.specs.Cut.{CutPath, cut_state}
@@ -98,27 +98,27 @@ none_counted h = let l : 0 < 0 = h refl in omega arith
 
 -- from X2 to X8 at the path 4 5 1, with one visit, and one X2 state at level 3
 abbrev row : List ℕ
-row = 3 ∷ 1 ∷ 1 ∷ 1 ∷ 3 ∷ 4 ∷ 5 ∷ 1 ∷ 2 ∷ 0 ∷ 0 ∷ 3 ∷ 4 ∷ 5 ∷ 1 ∷ 3 ∷ 8 ∷ 0 ∷ 0 ∷ 0 ∷ []
+row = 3 ∷ 1 ∷ 1 ∷ 1 ∷ 6 ∷ 4 ∷ 5 ∷ 1 ∷ 2 ∷ 0 ∷ 0 ∷ 3 ∷ 4 ∷ 5 ∷ 1 ∷ 3 ∷ 8 ∷ 0 ∷ 0 ∷ 0 ∷ []
 
 its_from : (kept_value small row).from ≡ at X2 (4 ∷ 5 ∷ 1 ∷ []) cursor.None
-unfolding state_of path_of path_rest paths_rest after_paths
+unfolding state_of path_of path_rest paths_rest after_paths next_rest
 its_from = refl
 
 its_to : (kept_value small row).to ≡ at X8 (4 ∷ 5 ∷ 1 ∷ []) cursor.None
-unfolding after_of state_of path_of state_rest path_rest paths_rest after_paths
+unfolding after_of state_of path_of state_rest path_rest paths_rest after_paths next_rest
 its_to = refl
 
 its_visits : kept_visits row ≡ (4 ∷ 5 ∷ 1 ∷ []) ∷ []
-unfolding path_rest paths_of paths_at path_of
+unfolding path_rest paths_of paths_at path_of next_path
 its_visits = refl
 
 its_levels : kept_levels row ≡ 0 ∷ 0 ∷ 0 ∷ 1 ∷ []
-unfolding path_of path_rest paths_rest after_paths
+unfolding path_of path_rest paths_rest after_paths next_rest
 its_levels = refl
 
 -- it is that one step, which visits 4 5 1
 step_there : next small (kept_value small row).from ≡ (kept_value small row).to
-unfolding next after_of state_of path_of state_rest path_rest paths_rest after_paths covered_by taken choice active remaining
+unfolding next after_of state_of path_of state_rest path_rest paths_rest after_paths next_rest covered_by taken choice active remaining
 step_there = refl
 
 -- ---- specs/Walk.antt

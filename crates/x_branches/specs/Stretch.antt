@@ -2,7 +2,7 @@
 -- (`KeepsStretch`), it as a row of numbers (`kept_value`, `kept_visits`, `kept_levels`, `KeepsRow`), and many (`kept_values`, `KeepsRows`).
 --
 -- Example: the step from X2 to X8 with the path 4 5 1, a visit of the small problem, is the row 3 1 1 for no X2 state at three levels and then,
--- at one level, one; 1 3 4 5 1 for one visit of three choices; 2 0 0 3 4 5 1; and 3 8 0 0 0, since the second state has all three choices
+-- at one level, one; 1 6 4 5 1 for one visit of three choices; 2 0 0 3 4 5 1; and 3 8 0 0 0, since the second state has all three choices
 -- of the first. proofs/RunnerExamples.antt computes it.
 use Rattle.std.specs.Prelude.{◌≡◌, ℕ, List, [], ◌∷◌, ◌++◌, ⊤, replicate, slice_index}
 use Rattle.cover_problem.specs.Problem.{ProblemValue}

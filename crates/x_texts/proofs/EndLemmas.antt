@@ -1,11 +1,11 @@
 -- How the line of a visit is kept, and goes on.
-use Rattle.std.proofs.Common.{◌≡◌, ℕ, zero, suc, ◌+◌, ◌/◌, ◌%◌, ◌<◌, ◌≤◌, List, [], ◌∷◌, ◌++◌, length, take, drop, map, get_or, decimal, codes, refl, sym, ap, ◌∙◌, arith, append_assoc, length-append}
-use Rattle.std.proofs.lemmas.List.{map-append, map_more, flat_map_more, length-map, take-map, take_more, take-append-drop}
+use Rattle.std.proofs.Common.{◌≡◌, ℕ, zero, suc, ◌+◌, ◌/◌, ◌%◌, ◌<◌, ◌≤◌, List, [], ◌∷◌, ◌++◌, length, take, drop, map, get_or, decimal, codes, refl, sym, ap, ◌∙◌, le_refl, arith, append_assoc, length-append}
+use Rattle.std.proofs.lemmas.List.{map-append, map_more, flat_map_more, length-map, take-map, take_all, take_more, take-append-drop}
 use Rattle.std.proofs.lemmas.Fmt.{decimal_digit, decimal_step}
 use Rattle.std.proofs.lemmas.Grind.{flat_map-append}
 use Rattle.std.proofs.Math.Seq.{take-append_seam}
 use Rattle.text_lines.specs.Writing.{words_after, line_text, text_of}
-use Rattle.text_lines.proofs.WritingLemmas.{line_ends}
+use Rattle.text_lines.proofs.WritingLemmas.{joined}
 use Rattle.x_texts.specs.Words.{visit_words}
 use Rattle.x_texts.specs.Ends.{word_ends, IsVisitLine}
 
@@ -100,24 +100,34 @@ two_digits n old mid next new l h m t e =
     e ∙ ap (λ bs. bs ++ (48 + n % 10) ∷ []) first ∙ append_assoc old (32 ∷ decimal (n / 10)) ((48 + n % 10) ∷ [])
     ∙ ap (λ ds. old ++ 32 ∷ ds) (sym (decimal_step n (omega arith) (omega arith)))
 
+-- a digit too many goes again, where the choice has one
+pub cut_digit : (n k : ℕ) (old one two three new : List ℕ) → n < 10 → one ≡ old ++ 32 ∷ [] → two ≡ one ++ (48 + n % 10) ∷ [] → three ≡ two ++ (48 + n % 10) ∷ []
+    → k ≡ length two → new ≡ take k three → new ≡ old ++ 32 ∷ decimal n
+cut_digit n k old one two three new l first second third is cut =
+    let same : n % 10 ≡ n = omega arith in
+    cut ∙ (λ j. take (is j) (third j)) ∙ take-append_seam two ((48 + n % 10) ∷ []) ∙ one_digit n old one two l first (second ∙ ap (λ d. one ++ (48 + d) ∷ []) same)
+
+-- and none where it has two
+pub kept_digits : (n k : ℕ) (old one two three new : List ℕ) → 10 ≤ n → n < 100 → one ≡ old ++ 32 ∷ [] → two ≡ one ++ (48 + n / 10) ∷ [] → three ≡ two ++ (48 + n % 10) ∷ []
+    → k ≡ length three → new ≡ take k three → new ≡ old ++ 32 ∷ decimal n
+kept_digits n k old one two three new l h first second third is cut =
+    cut ∙ ap (λ j. take j three) is ∙ take_all (length three) three (le_refl (length three)) ∙ two_digits n old one two three l h first second third
+
 -- *a list of choices*
 
 -- the next of them
 pub next_choice : (path more : List ℕ) (i d : ℕ) → i < length more → (path ++ take i more) ++ get_or more i d ∷ [] ≡ path ++ take (i + 1) more
 next_choice path more i d l = append_assoc path (take i more) (get_or more i d ∷ []) ∙ ap (λ cs. path ++ cs) (sym (take_more more i d l))
 
--- what two share, and the rest of the second
-pub shared_and_rest : (before path rest : List ℕ) (n : ℕ) → take n before ≡ take n path → rest ≡ drop n path → take n before ++ rest ≡ path
-shared_and_rest before path rest n e r = (λ j. e j ++ r j) ∙ take-append-drop n path
-
 -- *lines*
 
+-- the line of a visit, and its end
+pub visit_line : (line path : List ℕ) → line ≡ codes "visit" ++ words_after (map decimal path) → line ++ 10 ∷ [] ≡ line_text (visit_words path)
+visit_line line path is = ap (λ bs. bs ++ 10 ∷ []) (is ∙ sym (joined (codes "visit") (map decimal path)))
+
 -- the line of the next visit
-pub next_line : (old text line ends first new : List ℕ) (visits : List (List ℕ)) (path : List ℕ) (k : ℕ) → k < length visits → path ≡ get_or visits k [] → text ≡ old ++ text_of (map visit_words (take k visits)) → IsVisitLine line ends path → first ≡ text ++ line → new ≡ first ++ 10 ∷ [] → new ≡ old ++ text_of (map visit_words (take (k + 1) visits))
-next_line old text line ends first new visits path k l at before is f n =
-    n ∙ line_ends first text key (map decimal path) (f ∙ ap (λ bs. text ++ bs) is.written ∙ sym (append_assoc text key (words_after (map decimal path))))
-    ∙ ap (λ bs. bs ++ line_text (visit_words path)) before ∙ flat_map_more line_text old (map visit_words (take k visits)) (visit_words path)
+pub next_line : (old text line new : List ℕ) (visits : List (List ℕ)) (path : List ℕ) (k : ℕ) → k < length visits → path ≡ get_or visits k [] → text ≡ old ++ text_of (map visit_words (take k visits))
+    → line ≡ codes "visit" ++ words_after (map decimal path) → new ≡ text ++ (line ++ 10 ∷ []) → new ≡ old ++ text_of (map visit_words (take (k + 1) visits))
+next_line old text line new visits path k l at before is n =
+    n ∙ ap (λ bs. text ++ bs) (visit_line line path is) ∙ ap (λ bs. bs ++ line_text (visit_words path)) before ∙ flat_map_more line_text old (map visit_words (take k visits)) (visit_words path)
     ∙ ap (λ p. old ++ text_of (map visit_words (take k visits) ++ visit_words p ∷ [])) at ∙ ap (λ ls. old ++ text_of ls) (sym (map_more visit_words visits k [] l))
-  where
-    key : List ℕ
-    key = codes "visit"

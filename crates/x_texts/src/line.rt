@@ -8,6 +8,7 @@ ghost use Rattle.x_texts.specs.Writes.{AddsLines};
 
 use crate::breakpoint::Break;
 use crate::visit_line::VisitLine;
+use crate::visit_text::put_line;
 use crate::word::{label_word, write_cursor, write_point};
 use cover_problem::{Lists, Problem};
 use std::alloc::AllocError;
@@ -54,14 +55,9 @@ pub fn write_visits(text: &mut Vec<u8>, visits: &Lists) -> Result<(), AllocError
     ensures { AddsLines result text.old text.new (map visit_words visits.now) }
 {
     let mut line = VisitLine::new(*text.allocator())?;
-    // No visit is before the first: the line begins as that of a visit without choices.
-    let mut before: &[u32] = &[];
     for place in 0..visits.len() {
-        let path = visits.list(place);
-        line.turn(before, path)?;
-        text.extend_from_slice(line.bytes())?;
-        text.push(b'\n')?;
-        before = path;
+        line.turn(visits.list(place))?;
+        put_line(text, line.bytes())?;
     }
     Ok(())
 }

@@ -1,16 +1,30 @@
 //! The line of a visit, kept for the next visit. In path order neighbours begin alike, and what they share is made into digits once.
-ghost use Rattle.std.specs.Prelude.{◌≡◌, ◌≤◌, ◌<◌, ◌+◌, ◌++◌, ◌∷◌, ℕ, List, [], take, length, decimal, vec_len, vec_capacity, IfOk, OnOk};
-ghost use Rattle.x_texts.specs.Ends.{IsVisitLine};
+ghost use Rattle.std.specs.Prelude.{◌≡◌, ◌≤◌, ◌<◌, ◌+◌, ◌++◌, ◌∷◌, [], take, length, decimal, codes, map, vec_len, vec_capacity, OnOk, OnErr};
+ghost use Rattle.text_lines.specs.Writing.{words_after};
+ghost use Rattle.cover_problem.specs.Answers.{Returns};
 
 use itoa::Buffer;
 use std::alloc::{AllocError, Global};
+use std::marker::Model;
 
-/// The bytes of a visit's line without its end, and where in them its first word and each of its choices end.
+/// The choices of a visit, the bytes of its line without the line's end, and where in them its first word and each choice end.
 #[derive(Drop)]
 pub(crate) struct VisitLine {
+    path: Vec<u32>,
     bytes: Vec<u8>,
     // The word's end stands before those of the choices: so many choices end at the place of that number.
     ends: Vec<usize>,
+}
+
+impl Model for VisitLine {
+    ghost use Rattle.std.specs.Prelude.{ℕ, List};
+    ghost use Rattle.x_texts.specs.Ends.{IsVisitLine};
+
+    ghost Value = { List ℕ };
+
+    ghost view = { λ l. l.path.items };
+
+    ghost invariant = { λ l. IsVisitLine l.bytes.items l.ends.items l.path.items };
 }
 
 /// How many choices two visits share from the first on.
@@ -28,10 +42,11 @@ fn shared(before: &[u32], path: &[u32]) -> usize
     most
 }
 
-/// Adds a short word after another, byte by byte: for a few digits a copy of memory takes longer.
+/// Adds a short word after another, byte by byte: for a few digits a copy of memory takes longer. Where memory runs out, nothing changes.
 #[inline(always)]
 fn put_word(bytes: &mut Vec<u8>, word: &[u8]) -> Result<(), AllocError>
-    ensures { OnOk result (bytes.new.items ≡ bytes.old.items ++ 32 ∷ word.now) }
+    ensures added { OnOk result (bytes.new.items ≡ bytes.old.items ++ 32 ∷ word.now) }
+    ensures unchanged { OnErr result (bytes.new.items ≡ bytes.old.items) }
 {
     // Room for all of it first.
     bytes.reserve(word.len() + 1)?;
@@ -49,19 +64,24 @@ fn put_small(bytes: &mut Vec<u8>, choice: u32)
     requires room { vec_len bytes.old + 3 ≤ vec_capacity bytes.old }
     ensures { bytes.new.items ≡ bytes.old.items ++ 32 ∷ decimal choice }
 {
+    let ones = b'0' + (choice % 10) as u8;
+    let first = if choice < 10 {
+        ones
+    } else {
+        b'0' + (choice / 10) as u8
+    };
     bytes.push_reserved(b' ');
-    if choice < 10 {
-        bytes.push_reserved(b'0' + choice as u8);
-        return;
-    }
-    bytes.push_reserved(b'0' + (choice / 10) as u8);
-    bytes.push_reserved(b'0' + (choice % 10) as u8);
+    bytes.push_reserved(first);
+    bytes.push_reserved(ones);
+    // A digit too many goes again: a jump that hangs on the choice would often be guessed wrong.
+    bytes.truncate(bytes.len() - (choice < 10) as usize);
 }
 
-/// Adds a choice after a space. A small one is written here: a call of `format` takes longer.
+/// Adds a choice after a space. A small one is written here: a call of `format` takes longer. Where memory runs out, nothing changes.
 #[inline(always)]
 fn put_choice(bytes: &mut Vec<u8>, buffer: &mut Buffer, choice: u32) -> Result<(), AllocError>
-    ensures { OnOk result (bytes.new.items ≡ bytes.old.items ++ 32 ∷ decimal choice) }
+    ensures added { OnOk result (bytes.new.items ≡ bytes.old.items ++ 32 ∷ decimal choice) }
+    ensures unchanged { OnErr result (bytes.new.items ≡ bytes.old.items) }
 {
     if choice >= 100 {
         return put_word(bytes, buffer.format(choice).as_bytes());
@@ -77,54 +97,57 @@ fn put_choice(bytes: &mut Vec<u8>, buffer: &mut Buffer, choice: u32) -> Result<(
 impl VisitLine {
     /// The line of a visit without choices.
     pub(crate) fn new(alloc: Global) -> Result<VisitLine, AllocError>
-        ensures { IfOk result (λ line. IsVisitLine line.bytes.items line.ends.items []) }
+        ensures { Returns result [] }
     {
         let bytes = Vec::from_slice(alloc, b"visit")?;
         let ends = Vec::from_slice(alloc, &[bytes.len()])?;
-        Ok(VisitLine { bytes, ends })
+        Ok(VisitLine {
+            path: Vec::new(alloc),
+            bytes,
+            ends,
+        })
     }
 
     /// The line without its end.
     pub(crate) fn bytes(&self) -> &[u8]
-        ensures { result.now ≡ self.now.bytes.items }
+        ensures { result.now ≡ codes "visit" ++ words_after (map decimal self.now) }
     {
         &self.bytes
     }
 
     /// Keeps so many choices.
     fn keep(&mut self, count: usize)
-        requires { count < vec_len self.old.ends }
-        ensures { (path : List ℕ) → IsVisitLine self.old.bytes.items self.old.ends.items path →
-            IsVisitLine self.new.bytes.items self.new.ends.items (take count path) }
+        requires { count ≤ length self.old }
+        ensures { self.new ≡ take count self.old }
     {
         // The ends show where the bytes part, so what is kept is cut off without a look at its digits.
         self.bytes.truncate(self.ends[count]);
         self.ends.truncate(count + 1);
+        self.path.truncate(count);
     }
 
-    /// Writes more choices.
+    /// Writes more choices. Where memory runs out, some of them may be there.
     fn write_more(&mut self, more: &[u32]) -> Result<(), AllocError>
-        ensures { (path : List ℕ) → IsVisitLine self.old.bytes.items self.old.ends.items path →
-            OnOk result (IsVisitLine self.new.bytes.items self.new.ends.items (path ++ more.now)) }
+        ensures { OnOk result (self.new ≡ self.old ++ more.now) }
     {
         self.ends.reserve(more.len())?;
+        self.path.reserve(more.len())?;
         // One buffer for all: a call of `write_number` for each isn't inlined.
         let mut buffer = Buffer::new();
         for choice in more {
             put_choice(&mut self.bytes, &mut buffer, *choice)?;
             self.ends.push_reserved(self.bytes.len());
+            self.path.push_reserved(*choice);
         }
         Ok(())
     }
 
-    /// Makes the line of one visit that of another.
-    pub(crate) fn turn(&mut self, before: &[u32], path: &[u32]) -> Result<(), AllocError>
-        requires { IsVisitLine self.old.bytes.items self.old.ends.items before.now }
-        ensures { OnOk result (IsVisitLine self.new.bytes.items self.new.ends.items path.now) }
+    /// Makes it the line of another visit. Where memory runs out, it may be that of the visit's first choices.
+    pub(crate) fn turn(&mut self, path: &[u32]) -> Result<(), AllocError>
+        ensures { OnOk result (self.new ≡ path.now) }
     {
-        let count = shared(before, path);
+        let count = shared(&self.path, path);
         self.keep(count);
-        // Where memory runs out here the line is of neither visit, and its writer gives up.
         let (_, more) = path.split_at(count);
         self.write_more(more)
     }

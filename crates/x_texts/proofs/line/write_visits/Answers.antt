@@ -1,4 +1,5 @@
-use Rattle.std.proofs.Common.{◌<◌, ◌++◌, length, ap, ◌∙◌, arith}
+use Rattle.std.proofs.Common.{ℕ, List, ◌<◌, ◌++◌, length, map, decimal, codes, ap, ◌∙◌, arith}
+use Rattle.text_lines.specs.Writing.{words_after}
 use Rattle.x_texts.proofs.EndLemmas.{next_line}
 use Rattle.x_texts.proofs.line.write_visits.Goals as goal
 
@@ -6,8 +7,5 @@ pub loop-place-preserved : goal.loop-place-preserved
 loop-place-preserved c =
     let visits = c.args.visits.now in let place = c.loop-place.place in
     let l : place < length visits = omega (arith, c.loop-place-test.true, c.loop-place.auto.place-end, c.len-place-end.ensures) in
-    let first = c.in_ok-extend_from_slice.ensures.items ∙ ap (λ bs. c.loop-place.text.items ++ bs) c.bytes.ensures in
-    record {
-      written = next_line c.args.text.now.items c.loop-place.text.items c.turn.new.self.bytes.items c.turn.new.self.ends.items _ _ visits c.list-path.result.now place l c.list-path.ensures c.loop-place.invariant.written c.in_ok-turn.ensures first c.in_ok-push.ensures.items;
-      line = c.in_ok-turn.ensures;
-    }
+    next_line c.args.text.now.items c.loop-place.text.items c.bytes.result.now _ visits c.list.result.now place l c.list.ensures c.loop-place.invariant
+    (c.bytes.ensures ∙ ap (λ (path : List ℕ). codes "visit" ++ words_after (map decimal path)) c.in_ok-turn.ensures) c.in_ok-put_line.ensures.added

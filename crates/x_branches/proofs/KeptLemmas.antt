@@ -2,7 +2,7 @@
 use Rattle.std.proofs.Common.{◌≡◌, ℕ, zero, suc, Some, ◌<◌, List, [], ◌∷◌, ◌++◌, length, replicate, take, get_or, slice_get, refl, sym, ap, ◌∙◌, subst, arith, append_assoc}
 use Rattle.std.proofs.lemmas.List.{append-nil}
 use Rattle.x_steps.specs.StateValue.{StateValue}
-use Rattle.x_codes.specs.StateCode.{path_code, path_of, path_rest, paths_code, paths_of, paths_rest, state_code, state_of, state_rest}
+use Rattle.x_codes.specs.StateCode.{path_code, paths_code, paths_of, paths_rest, state_code, state_of, state_rest}
 use Rattle.x_codes.specs.StateCode.{after_code, after_of, ReadsPath, ReadsPaths, ReadsState, ReadsAfter}
 use Rattle.x_branches.specs.Stretch.{StretchValue, KeepsStretch, HeadValue, KeepsRow, KeepsRows}
 use Rattle.x_branches.specs.Stretch.{counts_of, counts_rest, kept_value, kept_values, kept_ends, kept_visits, kept_levels, visits_of_stretch, levels_of_stretch}

@@ -42,19 +42,33 @@ fn shared(before: &[u32], path: &[u32]) -> usize
     most
 }
 
-/// Adds a short word after another, byte by byte: for a few digits a copy of memory takes longer. Where memory runs out, nothing changes.
+/// Makes room for so many more, with no call where there is room.
 #[inline(always)]
-fn put_word(bytes: &mut Vec<u8>, word: &[u8]) -> Result<(), AllocError>
-    ensures added { OnOk result (bytes.new.items ≡ bytes.old.items ++ 32 ∷ word.now) }
-    ensures unchanged { OnErr result (bytes.new.items ≡ bytes.old.items) }
+pub(crate) fn make_room<T>(list: &mut Vec<T>, more: usize) -> Result<(), AllocError>
+    ensures same { list.new.items ≡ list.old.items }
+    ensures room { OnOk result (vec_len list.new + more ≤ vec_capacity list.new) }
 {
-    // Room for all of it first.
-    bytes.reserve(word.len() + 1)?;
+    if list.capacity() - list.len() < more {
+        list.reserve(more)?;
+    }
+    Ok(())
+}
+
+/// The most bytes that a choice takes: a space and ten digits.
+const MOST_BYTES: usize = 11;
+
+/// Adds a short word after a space, byte by byte: for a few digits a copy of memory takes longer.
+#[inline(always)]
+fn put_word(bytes: &mut Vec<u8>, word: &[u8])
+    requires { vec_len bytes.old + (length word.now + 1) ≤ vec_capacity bytes.old }
+    ensures added { bytes.new.items ≡ bytes.old.items ++ 32 ∷ word.now }
+    ensures long { vec_len bytes.new ≡ vec_len bytes.old + (length word.now + 1) }
+    ensures capacity { vec_capacity bytes.new ≡ vec_capacity bytes.old }
+{
     bytes.push_reserved(b' ');
     for byte in word {
         bytes.push_reserved(*byte);
     }
-    Ok(())
 }
 
 /// Adds a number of at most two digits after a space.
@@ -62,7 +76,9 @@ fn put_word(bytes: &mut Vec<u8>, word: &[u8]) -> Result<(), AllocError>
 fn put_small(bytes: &mut Vec<u8>, choice: u32)
     requires small { choice < 100 }
     requires room { vec_len bytes.old + 3 ≤ vec_capacity bytes.old }
-    ensures { bytes.new.items ≡ bytes.old.items ++ 32 ∷ decimal choice }
+    ensures added { bytes.new.items ≡ bytes.old.items ++ 32 ∷ decimal choice }
+    ensures long { vec_len bytes.new ≤ vec_len bytes.old + 3 }
+    ensures capacity { vec_capacity bytes.new ≡ vec_capacity bytes.old }
 {
     let ones = b'0' + (choice % 10) as u8;
     let first = if choice < 10 {
@@ -77,21 +93,19 @@ fn put_small(bytes: &mut Vec<u8>, choice: u32)
     bytes.truncate(bytes.len() - (choice < 10) as usize);
 }
 
-/// Adds a choice after a space. A small one is written here: a call of `format` takes longer. Where memory runs out, nothing changes.
+/// Adds a choice after a space. A small one is written here: a call of `format` takes longer.
 #[inline(always)]
-fn put_choice(bytes: &mut Vec<u8>, buffer: &mut Buffer, choice: u32) -> Result<(), AllocError>
-    ensures added { OnOk result (bytes.new.items ≡ bytes.old.items ++ 32 ∷ decimal choice) }
-    ensures unchanged { OnErr result (bytes.new.items ≡ bytes.old.items) }
+fn put_choice(bytes: &mut Vec<u8>, buffer: &mut Buffer, choice: u32)
+    requires { vec_len bytes.old + 11 ≤ vec_capacity bytes.old }
+    ensures added { bytes.new.items ≡ bytes.old.items ++ 32 ∷ decimal choice }
+    ensures long { vec_len bytes.new ≤ vec_len bytes.old + 11 }
+    ensures capacity { vec_capacity bytes.new ≡ vec_capacity bytes.old }
 {
-    if choice >= 100 {
-        return put_word(bytes, buffer.format(choice).as_bytes());
+    if choice < 100 {
+        put_small(bytes, choice);
+        return;
     }
-    // No call is made where there is room.
-    if bytes.capacity() - bytes.len() < 3 {
-        bytes.reserve(3)?;
-    }
-    put_small(bytes, choice);
-    Ok(())
+    put_word(bytes, buffer.format(choice).as_bytes());
 }
 
 impl VisitLine {
@@ -126,16 +140,18 @@ impl VisitLine {
         self.path.truncate(count);
     }
 
-    /// Writes more choices. Where memory runs out, some of them may be there.
+    /// Writes more choices; where memory runs out, none.
     fn write_more(&mut self, more: &[u32]) -> Result<(), AllocError>
         ensures { OnOk result (self.new ≡ self.old ++ more.now) }
     {
-        self.ends.reserve(more.len())?;
-        self.path.reserve(more.len())?;
+        // All room first: then no call is made on the way, and none can fail.
+        make_room(&mut self.bytes, more.len().saturating_mul(MOST_BYTES))?;
+        make_room(&mut self.ends, more.len())?;
+        make_room(&mut self.path, more.len())?;
         // One buffer for all: a call of `write_number` for each isn't inlined.
         let mut buffer = Buffer::new();
         for choice in more {
-            put_choice(&mut self.bytes, &mut buffer, *choice)?;
+            put_choice(&mut self.bytes, &mut buffer, *choice);
             self.ends.push_reserved(self.bytes.len());
             self.path.push_reserved(*choice);
         }

@@ -4,7 +4,7 @@ ghost use Rattle.text_lines.specs.Writing.{text_of};
 ghost use Rattle.cover_problem.specs.Answers.{Returns};
 ghost use Rattle.x_texts.specs.Words.{visit_words};
 
-use crate::visit_line::VisitLine;
+use crate::visit_line::{VisitLine, make_room};
 use std::alloc::{AllocError, Global};
 use std::marker::Model;
 
@@ -15,7 +15,7 @@ pub(crate) fn put_line(text: &mut Vec<u8>, line: &[u8]) -> Result<(), AllocError
     ensures unchanged { OnErr result (text.new.items ≡ text.old.items) }
 {
     // Room for its end too, so that no line stands there without one.
-    text.reserve(line.len() + 1)?;
+    make_room(text, line.len() + 1)?;
     text.extend_from_slice(line)?;
     text.push_reserved(b'\n');
     Ok(())

@@ -5,8 +5,8 @@ use Rattle.x_texts.proofs.EndLemmas.{cut_digit, kept_digits}
 use Rattle.x_texts.proofs.visit_line.put_small.Goals.{then-choice-lt10, else-choice-lt10}
 use Rattle.x_texts.proofs.visit_line.put_small.Goals as goal
 
-pub returns : goal.returns
-returns c =
+pub returns-clause-added : goal.returns-clause-added
+returns-clause-added c =
     let choice = c.args.choice in let two = c.push_reserved-2.new.self in let three = c.push_reserved-3.new.self in
     let size : c.len.result ≡ length three.items = c.len.ensures ∙ three.ok.0 in
     elim c.if-choice-lt10.branch [

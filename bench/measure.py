@@ -4,6 +4,7 @@ for instructions, and that the program at $POLYLAB, or crates/polylab/out/polyla
 All programs of a round run one after the other, and a round begins with another program than the one before, so that what else the
 machine does falls on all alike. A ratio is of two times of one round, and what is told is the median of the rounds."""
 
+import concurrent.futures
 import os
 import shutil
 import statistics
@@ -62,20 +63,29 @@ def run(words, source, sink):
     return Run(used.ru_utime, used.ru_utime + used.ru_stime, clock)
 
 
-def run_often(words, source, sink, times):
-    runs = [run(words, source, sink) for _ in range(times)]
+def run_beside(words, source, sink, copies):
+    """Runs so many copies of a program at once: what one of them took in the mean, and how long it was until all had ended."""
+    began = time.perf_counter()
+    with concurrent.futures.ThreadPoolExecutor(copies) as crew:
+        runs = list(crew.map(lambda place: run(words, source, sink + ".%d" % place if place else sink), range(copies)))
+    user, used = (sum(getattr(one, what) for one in runs) / copies for what in ("user", "used"))
+    return Run(user, used, time.perf_counter() - began)
+
+
+def run_often(words, source, sink, times, copies=1):
+    runs = [run_beside(words, source, sink, copies) if copies > 1 else run(words, source, sink) for _ in range(times)]
     return Run(*(sum(getattr(one, what) for one in runs) / times for what in ("user", "used", "clock")))
 
 
 def take_rounds(jobs, folder, rounds):
-    """Runs all jobs, words and a file for each name, in turns: for each name its rounds. What a job wrote is in folder/NAME.out. A
-    round before them, which isn't told, says how often short runs are taken in each."""
+    """Runs all jobs in turns: for each name words, a file, and where it is given how many copies run at once. Answers for each name its
+    rounds. What a job wrote is in folder/NAME.out. A round before them, which isn't told, says how often short runs are taken in each."""
     names, often, taken = list(jobs), {}, {name: [] for name in jobs}
     for number in range(-1, rounds):
         for name in names[max(number, 0) % len(names) :] + names[: max(number, 0) % len(names)]:
-            words, source = jobs[name]
+            words, source, *copies = jobs[name]
             sink = os.path.join(folder, name.replace(" ", "-") + ".out")
-            one = run_often(words, source, sink, often.get(name, 1))
+            one = run_often(words, source, sink, often.get(name, 1), *copies)
             if number < 0:
                 often[name] = max(1, min(20, int(LEAST / max(one.clock, 0.001))))
             else:

@@ -124,10 +124,10 @@ first_shown n p r first =
     ap₂ (λ (vs : List (List ℕ)) (end : List (List ℕ)). packings_from p 1 vs ++ line_text end) first.visits (same_packings_end n (packing_problem p) r first)
 
 -- the text that is written, part by part: of covers
-pub covers_written : (n : ℕ) (p : ProblemValue) (r : ReportValue) → IsFirstReport n p r → (none visited whole : List ℕ) (vs : List (List ℕ)) → none ≡ [] → vs ≡ r.visits
-    → visited ≡ none ++ text_of (map visit_words vs) → whole ≡ visited ++ text_of (cover_end n r) → whole ≡ first_cover_output n p
-covers_written n p r first none visited whole vs e f a b =
-    b ∙ ap (λ (t : List ℕ). t ++ text_of (cover_end n r)) (a ∙ ap₂ (λ (t : List ℕ) (ws : List (List ℕ)). t ++ text_of (map visit_words ws)) e f) ∙ first_written n p r first
+pub covers_written : (n : ℕ) (p : ProblemValue) (r : ReportValue) → IsFirstReport n p r → (none end whole : List ℕ) → none ≡ [] → end ≡ none ++ text_of (cover_end n r)
+    → whole ≡ text_of (map visit_words r.visits) ++ end → whole ≡ first_cover_output n p
+covers_written n p r first none end whole e f a =
+    a ∙ ap (λ (t : List ℕ). text_of (map visit_words r.visits) ++ t) (f ∙ ap (λ (t : List ℕ). t ++ text_of (cover_end n r)) e) ∙ first_written n p r first
 
 -- and of packings
 pub packings_shown : (n : ℕ) (p : PuzzleValue) (r : ReportValue) → IsFirstReport n (packing_problem p) r → (none shown whole : List ℕ) (vs : List (List ℕ)) (many : ℕ) → none ≡ [] → vs ≡ r.visits → many ≡ r.visited

@@ -1,8 +1,10 @@
 //! What `cover` writes, with `--first` and without it.
-ghost use Rattle.std.specs.Prelude.{IfErr};
+ghost use Rattle.std.specs.Prelude.{◌++◌, map, IfErr};
 ghost use Rattle.polylab_engine.specs.Refusals.{IsWantOrPool};
 ghost use Rattle.polylab_engine.specs.First.{cover_end, first_cover_output};
 ghost use Rattle.polylab_engine.specs.Output.{cover_output, report_text};
+ghost use Rattle.text_lines.specs.Writing.{text_of};
+ghost use Rattle.x_texts.specs.Words.{visit_words};
 ghost use Rattle.x_texts.specs.Writes.{AddsLines};
 ghost use Rattle.cover_problem.specs.Answers.{ReturnsItems};
 
@@ -14,7 +16,7 @@ use crate::workers::Workers;
 use cover_problem::Problem;
 use std::alloc::{AllocError, Global};
 use text_lines::write_number_line;
-use x_texts::write_visits;
+use x_texts::VisitText;
 
 /// The exact covers of the problem in path order, and then their number, the steps and the levels.
 #[tactic(auto, unfolding(crate::specs::Output::cover_output))]
@@ -27,17 +29,26 @@ pub fn covers<W: Workers>(
     ensures text { ReturnsItems result (cover_output problem.now) }
     ensures why { IfErr result (IsWantOrPool (W.refuses workers.now)) }
 {
-    let report = workers.search(alloc, problem, true)?;
-    Ok(report_text(alloc, &report)?)
+    let report = workers.list(alloc, problem)?;
+    Ok(report_text(alloc, report)?)
 }
 
 /// The visits that a report keeps, and then the number of all visits, the steps and the levels.
-pub fn report_text(alloc: Global, report: &Report) -> Result<Vec<u8>, AllocError>
-    ensures { ReturnsItems result (report_text report.now) }
+pub fn report_text(alloc: Global, report: Report<VisitText>) -> Result<Vec<u8>, AllocError>
+    ensures { ReturnsItems result (report_text report) }
 {
-    let mut text = Vec::new(alloc);
-    write_visits(&mut text, report.visits())?;
-    report.push_totals(&mut text)?;
+    let mut totals = Vec::new(alloc);
+    report.push_totals(&mut totals)?;
+    visits_and(report, &totals)
+}
+
+/// The visits that a report keeps, and then what is written behind them.
+fn visits_and(report: Report<VisitText>, rest: &[u8]) -> Result<Vec<u8>, AllocError>
+    ensures { ReturnsItems result (text_of (map visit_words report.visits) ++ rest.now) }
+{
+    // Their text is there already: a second one would take as much memory again.
+    let mut text = report.into_text();
+    text.extend_from_slice(rest)?;
     Ok(text)
 }
 
@@ -52,14 +63,13 @@ pub fn first_covers(
     ensures { ReturnsItems result (first_cover_output first problem.now) }
 {
     let report = search_first(alloc, problem, table, first)?;
-    let mut text = Vec::new(alloc);
-    write_visits(&mut text, report.visits())?;
-    push_end(&mut text, &report, first)?;
-    Ok(text)
+    let mut end = Vec::new(alloc);
+    push_end(&mut end, &report, first)?;
+    visits_and(report, &end)
 }
 
 /// Adds the totals of a report that has fewer visits than were asked for, or else the line that tells how many these are.
-fn push_end(text: &mut Vec<u8>, report: &Report, first: u64) -> Result<(), AllocError>
+fn push_end(text: &mut Vec<u8>, report: &Report<VisitText>, first: u64) -> Result<(), AllocError>
     ensures { AddsLines result text.old text.new (cover_end first report.now) }
 {
     if report.visited() < u128::from(first) {

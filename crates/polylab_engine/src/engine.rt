@@ -20,7 +20,7 @@ use crate::tables::TableKind;
 use crate::workers::{Alone, Crew, Together, Workers};
 use byte_streams::{InputFault, Sink, Source, read_whole, write_whole};
 use cover_links::LinkTable;
-use cover_problem::Problem;
+use cover_problem::{Lists, Problem};
 use lab_pool::{Gate, PoolFault};
 use std::alloc::Global;
 use std::sync::Wait;
@@ -174,7 +174,7 @@ pub fn run_together<R: Threads + Wait + Sync, G: Gate, I: Source, O: Sink, F: Si
     ensures why { TellsAtFour result F.stream (pool_faults job (MayRefuse crew.now.count)) faults.old faults.new }
 {
     // Only here is it known that the threads may wait: `run` calls the closures by their contracts, and stays a call that returns.
-    let search = |alloc: Global, problem: &Problem, keeps: bool| -> Result<Report, JobFault>
+    let search = |alloc: Global, problem: &Problem, keeps: bool| -> Result<Report<Lists>, JobFault>
         requires threads { IsSync R.row }
         requires gate { IsSync G.row }
         ensures report { Returns result (whole_report keeps problem.now) }

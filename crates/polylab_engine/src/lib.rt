@@ -17,6 +17,7 @@ mod search;
 mod stretch;
 mod tables;
 mod tally;
+mod visits;
 mod workers;
 
 pub use engine::{run_alone, run_together};

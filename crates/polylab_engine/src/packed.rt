@@ -11,7 +11,7 @@ use crate::report::Report;
 use crate::search::search_first;
 use crate::tables::TableKind;
 use crate::workers::Workers;
-use cover_problem::write_cover;
+use cover_problem::{Lists, write_cover};
 use poly_place::{Compiled, write_packings};
 use std::alloc::{AllocError, Global};
 use text_lines::write_number_line;
@@ -87,7 +87,7 @@ pub fn count<W: Workers>(
 pub fn count_text(
     alloc: Global,
     compiled: &Compiled<'_>,
-    report: &Report,
+    report: &Report<Lists>,
 ) -> Result<Vec<u8>, AllocError>
     ensures { ReturnsItems result (count_text compiled.now report.now) }
 {

@@ -17,6 +17,7 @@ use cover_problem::Table;
 use std::alloc::{AllocError, Global};
 use x_snapshot::{Snapshot, write_snapshot};
 use x_steps::{AtFault, Cursor, Label, Machine, State};
+use x_texts::VisitText;
 
 /// What `resume` writes of a snapshot: the report of the stretch from its state on, with the visits or without them, up to the end of
 /// its branch, or as many steps on as are asked for, where that comes first; and then that it ended, or the snapshot there.
@@ -32,7 +33,7 @@ pub fn resume(
 {
     snapshot.is_sound();
     let (report, stop) = stretch_of(alloc, table, most, lists, &snapshot)?;
-    let mut text = report_text(alloc, &report)?;
+    let mut text = report_text(alloc, report)?;
     // The rest takes the snapshot with it, so the report is written first.
     let rest = rest_of(alloc, snapshot, stop)?;
     text.extend_from_slice(&rest)?;
@@ -76,7 +77,7 @@ fn stretch_of(
     most: Option<u64>,
     lists: bool,
     snapshot: &Snapshot,
-) -> Result<(Report, State), AllocError>
+) -> Result<(Report<VisitText>, State), AllocError>
     ensures stop { IfOk result (λ r. state_value r.1 ≡ stop_of most snapshot.now) }
     ensures report { IfOk result (λ r. r.0 ≡ report_up_to lists snapshot.now (state_value r.1)) }
 {
@@ -93,7 +94,7 @@ fn stretch_by<T: Table>(
     most: Option<u64>,
     lists: bool,
     snapshot: &Snapshot,
-) -> Result<(Report, State), AllocError>
+) -> Result<(Report<VisitText>, State), AllocError>
     ensures stop { IfOk result (λ r. state_value r.1 ≡ stop_of most snapshot.now) }
     ensures report { IfOk result (λ r. r.0 ≡ report_up_to lists snapshot.now (state_value r.1)) }
 {

@@ -10,10 +10,11 @@ use crate::fault::JobFault;
 use crate::report::Report;
 use crate::stretch::search_on;
 use crate::tables::{TableKind, table_for};
+use crate::visits::Visits;
 use crate::workers::Crew;
 use cover_bits::BitTable;
 use cover_links::LinkTable;
-use cover_problem::{Problem, Table};
+use cover_problem::{Lists, Problem, Table};
 use lab_pool::{Gate, run_pool};
 use std::alloc::{AllocError, Global};
 use std::sync::Wait;
@@ -21,59 +22,67 @@ use std::thread::Threads;
 use x_steps::Machine;
 
 /// The report of one worker, who takes a machine through the run.
-pub fn search_alone(
+pub fn search_alone<V: Visits>(
     alloc: Global,
     problem: &Problem,
     table: Option<TableKind>,
     keeps: bool,
-) -> Result<Report, AllocError>
+) -> Result<Report<V>, AllocError>
     ensures { Returns result (whole_report keeps problem.now) }
 {
     match table_for(problem, 1, table) {
-        Some(TableKind::Links) => search_by::<LinkTable>(alloc, problem, keeps),
-        Some(TableKind::Bits) => search_by::<BitTable>(alloc, problem, keeps),
+        Some(TableKind::Links) => search_by::<LinkTable, V>(alloc, problem, keeps),
+        Some(TableKind::Bits) => search_by::<BitTable, V>(alloc, problem, keeps),
         // Bit sets that would take more than they may end as want of memory does, and are not begun.
         None => Err(AllocError),
     }
 }
 
 /// The same by this table.
-fn search_by<T: Table>(alloc: Global, problem: &Problem, keeps: bool) -> Result<Report, AllocError>
+fn search_by<T: Table, V: Visits>(
+    alloc: Global,
+    problem: &Problem,
+    keeps: bool,
+) -> Result<Report<V>, AllocError>
     ensures { Returns result (whole_report keeps problem.now) }
 {
     let table = T::new(alloc, problem)?;
     let Ok(machine) = Machine::new(alloc, problem, table) else {
         return Err(AllocError);
     };
-    let (report, _) = search_on(alloc, machine, &[], None, None, keeps)?;
+    let (report, _) = search_on::<T, V>(alloc, machine, &[], None, None, keeps)?;
     Ok(report)
 }
 
 /// The report of one worker up to the visit of this number, or of the whole run where it has fewer. It keeps the visits.
-pub fn search_first(
+pub fn search_first<V: Visits>(
     alloc: Global,
     problem: &Problem,
     table: Option<TableKind>,
     first: u64,
-) -> Result<Report, AllocError>
+) -> Result<Report<V>, AllocError>
     ensures { IfOk result (IsFirstReport first problem.now) }
 {
     match table_for(problem, 1, table) {
-        Some(TableKind::Links) => first_by::<LinkTable>(alloc, problem, first),
-        Some(TableKind::Bits) => first_by::<BitTable>(alloc, problem, first),
+        Some(TableKind::Links) => first_by::<LinkTable, V>(alloc, problem, first),
+        Some(TableKind::Bits) => first_by::<BitTable, V>(alloc, problem, first),
         None => Err(AllocError),
     }
 }
 
 /// The same by this table.
-fn first_by<T: Table>(alloc: Global, problem: &Problem, first: u64) -> Result<Report, AllocError>
+fn first_by<T: Table, V: Visits>(
+    alloc: Global,
+    problem: &Problem,
+    first: u64,
+) -> Result<Report<V>, AllocError>
     ensures { IfOk result (IsFirstReport first problem.now) }
 {
     let table = T::new(alloc, problem)?;
     let Ok(machine) = Machine::new(alloc, problem, table) else {
         return Err(AllocError);
     };
-    let (report, _) = search_on(alloc, machine, &[], None, Some(first), true)?;
+    let (report, _) = search_on::<T, V>(alloc, machine, &[], None, Some(first), true)?;
     Ok(report)
 }
 
@@ -83,7 +92,7 @@ pub fn search_together<R: Threads + Wait + Sync, G: Gate>(
     crew: &Crew<'_, R, G>,
     problem: &Problem,
     keeps: bool,
-) -> Result<Report, JobFault>
+) -> Result<Report<Lists>, JobFault>
     ensures report { Returns result (whole_report keeps problem.now) }
     ensures why { IfErr result (IsWantOrPool (MayRefuse crew.now.count)) }
 {
@@ -101,7 +110,7 @@ fn share_by<T: Table + Send + Sync, R: Threads + Wait + Sync, G: Gate>(
     crew: &Crew<'_, R, G>,
     problem: &Problem,
     keeps: bool,
-) -> Result<Report, JobFault>
+) -> Result<Report<Lists>, JobFault>
     ensures report { Returns result (whole_report keeps problem.now) }
     ensures why { IfErr result (IsWantOrPool (MayRefuse crew.now.count)) }
 {

@@ -9,6 +9,7 @@ ghost use Rattle.polylab_engine.specs.Stretch.{end_at, stop_from, report_from, I
 
 use crate::report::Report;
 use crate::tally::RunTally;
+use crate::visits::Visits;
 use cover_problem::Table;
 use std::alloc::{AllocError, Global};
 use x_steps::{Event, Label, Machine, State, Walk, no_counts};
@@ -70,14 +71,14 @@ fn walk_on<T: Table>(
 /// Takes a machine on, up to the end of a branch, which is the cut of these choices, or Done where there are none; or as many steps
 /// as are asked for, or up to the visit of the number `first`, where these come first. Answers the report of the stretch, which keeps
 /// the visits or not, and the state where it stops. Memory doesn't grow with the stretch, but for visits that are kept.
-pub fn search_on<T: Table>(
+pub fn search_on<T: Table, V: Visits>(
     alloc: Global,
     machine: Machine<'_, T>,
     end: &[u32],
     most: Option<u64>,
     first: Option<u64>,
     keeps: bool,
-) -> Result<(Report, State), AllocError>
+) -> Result<(Report<V>, State), AllocError>
     requires end { Fits machine.problem (end_at end.now) }
     requires not_past { ComesBefore machine.problem (end_at end.now) machine.state → ⊥ }
     ensures stop { IfOk result (λ r. (first ≡ Some r.0.visited) ⊎ (state_value r.1 ≡ stop_from most machine.entry end.now)) }
@@ -87,7 +88,7 @@ pub fn search_on<T: Table>(
 {
     let items = machine.problem().items();
     let mut machine = machine;
-    let mut tally = RunTally::new(alloc, items)?;
+    let mut tally = RunTally::<V>::new(alloc, items)?;
     let mut counts = no_counts(alloc, items)?;
     // The machine counts in 32 bits, which so many steps can't pass; then the counts go to totals without a bound.
     let mut room = u32::MAX;

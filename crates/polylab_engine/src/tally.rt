@@ -5,27 +5,27 @@ ghost use Rattle.cover_problem.specs.Answers.{Returns, ReturnsItems};
 
 use crate::count::Count;
 use crate::report::Report;
-use cover_problem::Lists;
+use crate::visits::Visits;
 use std::alloc::{AllocError, Global};
 use std::marker::Model;
 use x_steps::{Event, Walk, drop_last_zeros};
 
 /// The visits that are kept, and the numbers of visits, of steps, and of X2 states at each level.
 #[derive(Drop)]
-pub struct RunTally {
-    visits: Lists,
+pub struct RunTally<V: Visits> {
+    visits: V,
     visited: Count,
     steps: Count,
     entered: Vec<Count>,
 }
 
-impl Model for RunTally {
+impl<V: Visits> Model for RunTally<V> {
     ghost use Rattle.polylab_engine.specs.Account.{Account};
 
     ghost Value = { Account };
 
     ghost view = { λ r. record {
-      visits = r.visits;
+      visits = V.visits r.visits;
       visited = r.visited;
       steps = r.steps;
       entered = r.entered.items;
@@ -65,15 +65,16 @@ fn totals_of(alloc: Global, counts: &[Count]) -> Result<Vec<u128>, AllocError>
     Ok(totals)
 }
 
-impl RunTally {
+impl<V: Visits> RunTally<V> {
     /// The tally of no step, for a problem of so many items.
-    pub fn new(alloc: Global, items: u32) -> Result<RunTally, AllocError>
+    pub fn new(alloc: Global, items: u32) -> Result<RunTally<V>, AllocError>
         ensures { Returns result (empty_account items) }
     {
         // A path has an option for each item at most, so there is a level more than items.
         let entered = no_counts(alloc, items as usize + 1)?;
+        let visits = V::none(alloc)?;
         Ok(RunTally {
-            visits: Lists::new(alloc),
+            visits,
             visited: Count::new(alloc),
             steps: Count::new(alloc),
             entered,
@@ -81,6 +82,7 @@ impl RunTally {
     }
 
     /// Notes a walk: its steps, and its visit, if it came to one; the path there is kept where visits are kept.
+    #[inline(always)]
     pub fn note(&mut self, keeps: bool, walk: Walk, path: &[u32]) -> Result<(), AllocError>
         ensures { OnOk result (self.new ≡ with_walk keeps self.old walk.steps walk.event path.now) }
     {
@@ -109,7 +111,7 @@ impl RunTally {
     }
 
     /// The report of what was counted.
-    pub fn report(self, alloc: Global) -> Result<Report, AllocError>
+    pub fn report(self, alloc: Global) -> Result<Report<V>, AllocError>
         ensures { Returns result (report_of self) }
     {
         // A run's levels end at the last that was entered; a tally has them all from its beginning.
@@ -135,12 +137,17 @@ fn note_visit(visited: &mut Count, event: Event) -> Result<(), AllocError>
 }
 
 /// Keeps a visit, if the walk came to one and visits are kept.
-fn keep_visit(visits: &mut Lists, keeps: bool, event: Event, path: &[u32]) -> Result<(), AllocError>
-    ensures { OnOk result (visits.new ≡ kept_with keeps visits.old event path.now) }
+fn keep_visit<V: Visits>(
+    visits: &mut V,
+    keeps: bool,
+    event: Event,
+    path: &[u32],
+) -> Result<(), AllocError>
+    ensures { OnOk result (V.visits visits.new ≡ kept_with keeps (V.visits visits.old) event path.now) }
 {
     match event {
         // The path is copied here and nowhere else: a count of years keeps one number.
-        Event::Visited if keeps => visits.push(path),
+        Event::Visited if keeps => visits.keep(path),
         _ => Ok(()),
     }
 }

@@ -5,16 +5,17 @@ ghost use Rattle.polylab_engine.specs.Debugged.{debug_output};
 ghost use Rattle.polylab_engine.specs.Output.{whole_report};
 ghost use Rattle.polylab_engine.specs.Refusals.{IsWantOrPool, NoPool};
 ghost use Rattle.debug_script.specs.Refusals.{MayRefuse, MayEnd};
-ghost use Rattle.std.specs.Prelude.{IfErr};
+ghost use Rattle.std.specs.Prelude.{true, IfErr};
 ghost use Rattle.lab_pool.specs.declared.fault.PoolFault.{PoolFault};
 
 use crate::fault::JobFault;
 use crate::report::Report;
 use crate::search::search_alone;
 use crate::tables::TableKind;
-use cover_problem::Problem;
+use cover_problem::{Lists, Problem};
 use lab_pool::PoolFault;
-use std::alloc::{AllocError, Global};
+use std::alloc::Global;
+use x_texts::VisitText;
 
 /// Workers who share a search.
 #[derive(Drop)]
@@ -41,9 +42,20 @@ pub trait Workers {
     fn table(&self) -> Option<TableKind>;
 
     /// Takes the run of the problem from X1 to Done, and reports it: the totals, and the visits in path order where they are kept.
-    fn search(&self, alloc: Global, problem: &Problem, keeps: bool) -> Result<Report, JobFault>
+    fn search(
+        &self,
+        alloc: Global,
+        problem: &Problem,
+        keeps: bool,
+    ) -> Result<Report<Lists>, JobFault>
         requires { ready self.now }
         ensures report { Returns result (whole_report keeps problem.now) }
+        ensures why { IfErr result (IsWantOrPool (refuses self.now)) };
+
+    /// The same with its visits kept, each as the line that it is written as.
+    fn list(&self, alloc: Global, problem: &Problem) -> Result<Report<VisitText>, JobFault>
+        requires { ready self.now }
+        ensures report { Returns result (whole_report true problem.now) }
         ensures why { IfErr result (IsWantOrPool (refuses self.now)) };
 
     /// What commands over a problem are answered, from the start of its run on.
@@ -74,8 +86,17 @@ impl Workers for Alone {
         self.table
     }
 
-    fn search(&self, alloc: Global, problem: &Problem, keeps: bool) -> Result<Report, JobFault> {
-        Ok(search_alone(alloc, problem, self.table, keeps)?)
+    fn search(
+        &self,
+        alloc: Global,
+        problem: &Problem,
+        keeps: bool,
+    ) -> Result<Report<Lists>, JobFault> {
+        Ok(search_alone::<Lists>(alloc, problem, self.table, keeps)?)
+    }
+
+    fn list(&self, alloc: Global, problem: &Problem) -> Result<Report<VisitText>, JobFault> {
+        Ok(search_alone::<VisitText>(alloc, problem, self.table, true)?)
     }
 
     fn replies(
@@ -99,7 +120,7 @@ pub struct Together<S, D> {
 }
 
 impl<
-    S: Fn(Global, &Problem, bool) -> Result<Report, JobFault>,
+    S: Fn(Global, &Problem, bool) -> Result<Report<Lists>, JobFault>,
     D: Fn(Global, &Problem, &[u8]) -> Result<Vec<u8>, JobFault>,
 > Workers for Together<S, D> {
     ghost ready = { λ w. S.IsAlwaysCallable w.search × D.IsAlwaysCallable w.replies
@@ -114,8 +135,19 @@ impl<
         self.table
     }
 
-    fn search(&self, alloc: Global, problem: &Problem, keeps: bool) -> Result<Report, JobFault> {
+    fn search(
+        &self,
+        alloc: Global,
+        problem: &Problem,
+        keeps: bool,
+    ) -> Result<Report<Lists>, JobFault> {
         (self.search)(alloc, problem, keeps)
+    }
+
+    fn list(&self, alloc: Global, problem: &Problem) -> Result<Report<VisitText>, JobFault> {
+        // Their book keeps the visits in few bytes, and tells them as lists.
+        let report = (self.search)(alloc, problem, true)?;
+        Ok(report.told(alloc)?)
     }
 
     fn replies(

@@ -6,7 +6,7 @@ use Rattle.x_branches.specs.declared.branch.Branch.{Branch}
 use Rattle.x_branches.specs.Branch.{end_of}
 use Rattle.polylab_engine.specs.Account.{kept}
 use Rattle.polylab_engine.proofs.AccountLemmas.{report_between}
-use Rattle.polylab_engine.proofs.report.Report.of_book.Goals as goal
+use Rattle.polylab_engine.proofs.report.Report+Lists.of_book.Goals as goal
 
 pub returns : goal.returns
 returns c =

@@ -93,6 +93,10 @@ impl<'p, T: Table> Machine<'p, T> {
             steps: 0,
             event: Event::Moved,
         };
+        // Behind a visit, at which the walk before this one ended. Here and not in a round: so no round asks for this label.
+        if most >= 2 && matches!(self.state.label, Label::X8) {
+            walk = self.leave_and_retry();
+        }
         // The cut is looked for before each round: a walk that begins at it takes no step.
         while is_move(walk.event) && walk.steps < most && !is_at_cut(&self.state, end) {
             let round = self.round(most - walk.steps, counts);
@@ -118,8 +122,6 @@ impl<'p, T: Table> Machine<'p, T> {
         match (self.state.label, self.state.cursor) {
             (Label::X5, Cursor::At(option)) if most >= 4 => self.take_and_open(option, counts),
             (Label::X5, Cursor::Past) if most >= 4 => self.close_and_retry(),
-            // Behind a visit, at which the walk before this one ended.
-            (Label::X8, _) if most >= 2 => self.leave_and_retry(),
             _ => self.single(counts),
         }
     }

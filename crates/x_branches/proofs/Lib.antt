@@ -10,5 +10,6 @@ pub mod UntriedLemmas
 pub mod KeptLemmas
 pub mod PostingLemmas
 pub mod WalkedLemmas
+pub mod AdvanceLemmas
 pub mod FirstLemmas
 pub mod LevelLemmas

@@ -1,5 +1,5 @@
 -- Many steps of a runner: what it keeps after them, and where they stop.
-use Rattle.std.proofs.Common.{◌≡◌, ◌≢◌, ℕ, zero, suc, ◌+◌, ◌-◌, ◌<◌, ◌≤◌, ◌⊎◌, ◌==◌, true, false, Option, Some, List, [], ◌∷◌, ◌++◌, length, get_or, refl, sym, ap, ◌∙◌, subst, inl, inr, arith, le_refl, length-append, min}
+use Rattle.std.proofs.Common.{◌≡◌, ◌≢◌, ℕ, zero, suc, ◌+◌, ◌-◌, ◌<◌, ◌≤◌, ◌⊎◌, ◌==◌, Bool, true, false, if◌then◌else◌, Option, Some, List, [], ◌∷◌, ◌++◌, length, get_or, refl, sym, ap, ◌∙◌, subst, inl, inr, arith, le_refl, length-append, min}
 use Rattle.std.specs.Prelude as prelude
 use Rattle.std.specs.Prelude.{slice_index}
 use Rattle.std.proofs.Math.ListN.{set}
@@ -7,12 +7,15 @@ use Rattle.std.proofs.lemmas.Bool.{and_parts, cases_lt}
 use Rattle.std.proofs.lemmas.Bool.Decides.{eqb_tells}
 use Rattle.std.proofs.lemmas.List.{ext_get_or, length-set, get_or-set_same, get_or-set_other}
 use Rattle.cover_problem.specs.Problem.{ProblemValue, IsProblem}
-use Rattle.x_steps.specs.declared.state.Label.TheVariants.{X1, X5, Done}
+use Rattle.x_steps.specs.declared.state.Label.{Label}
+use Rattle.x_steps.specs.declared.state.Label.TheVariants.{X1, X2, X3, X5, X8, Done}
+use Rattle.x_steps.specs.declared.state.Cursor.{Cursor}
+use Rattle.x_steps.specs.declared.state.Cursor.TheVariants as cursor
 use Rattle.x_steps.specs.declared.state.Cursor.TheVariants.{At}
 use Rattle.x_steps.specs.declared.event.Event.{Event}
-use Rattle.x_steps.specs.declared.event.Event.TheVariants.{Moved, Visited}
+use Rattle.x_steps.specs.declared.event.Event.TheVariants.{Moved, Visited, Finished}
 use Rattle.x_steps.specs.StateValue.{StateValue, at, start}
-use Rattle.x_steps.specs.Steps.{Fits, event_of, is_level, is_visit}
+use Rattle.x_steps.specs.Steps.{Fits, next, next_at, event_at, event_of, is_level, is_open, is_visit}
 use Rattle.x_steps.specs.Before.{prev}
 use Rattle.x_steps.specs.Run.{after, states, visits, level_count, steps_between, states_between, visits_between, levels, ReachesIn}
 use Rattle.x_steps.specs.Walk.{last_event, is_visited, visit_told, OnlyMoves, AreCounted, HasRoom, IsAtCut, IsWalk}
@@ -26,7 +29,7 @@ use Rattle.x_branches.specs.Cut.{CutPath, cut_state}
 use Rattle.x_branches.specs.Branch.{first_of, end_of}
 use Rattle.x_branches.specs.Runner.{RunnerValue, KeepsRunner, without_level}
 use Rattle.x_branches.specs.Refusals.{most_steps}
-use Rattle.x_branches.specs.Walk.{end_choices, CanAdvanceBy, HasToStop}
+use Rattle.x_branches.specs.Walk.{end_choices, CanAdvanceBy, IsHeldUp, HasToStop}
 use Rattle.x_branches.proofs.StageLemmas.{comes_rank}
 use Rattle.x_branches.proofs.CutLemmas.{cut_is}
 use Rattle.x_branches.proofs.RunnerLemmas.{may_stand, other_before, next_before, before_goes_on, level_within, count_within, position_fits, mark_up, end_up}
@@ -36,6 +39,22 @@ use Rattle.x_branches.proofs.RunnerLemmas.{may_stand, other_before, next_before,
 -- the state before the last of some steps
 pub stepped_back : (p : ProblemValue) (s t u : StateValue) (n : ℕ) → Fits p s → ReachesIn p s t (suc n) → u ≡ prev p t → u ≡ after p n s
 stepped_back p s t u n f r e = e ∙ ap (prev p) (sym r.ends) ∙ prev_next p (after p n s) (after_fits p n s f) (r.goes_on n (omega arith))
+
+-- the end of the run is told on the way to Done
+finishes : (p : ProblemValue) (l : Label) (path : List ℕ) (k : Cursor) → event_at p l path ≡ Finished → (next_at p l path k).label ≡ Done
+finishes p X2 path k e = by (is_open p path) e
+  where
+    by : (b : Bool) → (if b then Moved else Visited) ≡ Finished → (if b then at X3 path cursor.None else at X8 path cursor.None).label ≡ Done
+    by true e = absurd (cc)
+    by false e = absurd (cc)
+finishes p X8 [] k e = refl
+finishes p X8 (x ∷ xs) k e = absurd (cc)
+finishes p _ path _ e = absurd (cc)
+
+finished_at : (p : ProblemValue) (s t : StateValue) (n : ℕ) (event : Event) → event ≡ last_event p n s → event ≡ Finished → after p n s ≡ t → t.label ≡ Done
+unfolding next event_of
+finished_at p s t zero event tells e ends = absurd (cc)
+finished_at p s t (suc n) event tells e ends = let u = after p n s in ap (λ v. v.label) (sym ends) ∙ finishes p u.label u.path u.cursor (sym tells ∙ e)
 
 -- what tells a visit is one
 pub told_visit : (p : ProblemValue) (s : StateValue) → event_of p s ≡ Visited → is_visit p s ≡ true
@@ -166,6 +185,11 @@ cut_is_end p (Some cut) s first f l e = step (split_last_cases cut.path)
 
 -- ---- a runner
 
+-- the run goes on where the runner isn't at its branch's end
+pub not_over : (r : RunnerValue) (steps : ℕ) (visited : List (List ℕ)) (counts : List ℕ) → KeepsRunner r steps visited counts → (r.position ≡ end_of r.branch.hi → ⊥) → r.position.label ≡ Done → ⊥
+not_over r steps visited counts k h = before_goes_on r.problem r.position (end_of r.branch.hi) (position_fits r steps visited counts k) k.end_fits
+    (other_before r.problem r.position (end_of r.branch.hi) (position_fits r steps visited counts k) k.end_fits (end_up r steps visited counts k) h)
+
 module _ (r : RunnerValue) (steps : ℕ) (visited : List (List ℕ)) (counts : List ℕ) (k : KeepsRunner r steps visited counts) where
   pub walk_levels : (row : List ℕ) → row ≡ counts → length row ≡ length r.problem.names + 1
   walk_levels row e = ap (length {A = ℕ}) (e ∙ k.counts_are) ∙ length-levels r.problem r.mark r.position
@@ -181,11 +205,6 @@ module _ (r : RunnerValue) (steps : ℕ) (visited : List (List ℕ)) (counts : L
 
   first_before : rank r.problem (first_of r.branch.lo) < rank r.problem (end_of r.branch.hi)
   first_before = comes_rank r.problem (first_of r.branch.lo) (end_of r.branch.hi) k.first_fits k.inside.branch.order
-
-  -- the run goes on where the runner isn't at its branch's end
-  pub not_over : (r.position ≡ end_of r.branch.hi → ⊥) → r.position.label ≡ Done → ⊥
-  not_over h = before_goes_on r.problem r.position (end_of r.branch.hi) (position_fits r steps visited counts k) k.end_fits
-      (other_before r.problem r.position (end_of r.branch.hi) (position_fits r steps visited counts k) k.end_fits (end_up r steps visited counts k) h)
 
   module _ (t : StateValue) (row : List ℕ) (n : ℕ) (event : Event) (walk : IsWalk r.problem r.position t counts row n event) (fitting : steps + n ≤ most_steps)
       (before : (i : ℕ) → i < n → IsAtCut (after r.problem i r.position) (end_choices r.branch.hi) → ⊥) where
@@ -261,6 +280,12 @@ module _ (r : RunnerValue) (steps : ℕ) (visited : List (List ℕ)) (counts : L
         → KeepsRunner (record { problem = q; branch = r.branch; mark = r.mark; position = t }) m vs cs
     walked q m vs cs a b c d = rw (a, b, c, d) keeps_walked
 
+    -- what a step told that didn't move on: a visit, or the end of the run, from where no step can be taken
+    told : (e : Event) → event ≡ e → event ≢ Moved → HasToStop (record r { position = t }) event
+    told Moved e h = absurd (h e)
+    told Visited e h = inl e
+    told Finished e h = inr (inl (λ can. not_over (record r { position = t }) (steps + n) _ row keeps_walked can.goes_on (finished_at r.problem r.position t n event walk.tells e walk.reaches.ends)))
+
     pub stops_there : (most room : ℕ) (q : ProblemValue) → q ≡ r.problem → (room ≡ most) ⊎ (steps + room ≡ most_steps) → (n ≡ room) ⊎ ((event ≢ Moved) ⊎ (IsAtCut t (end_choices r.branch.hi) ⊎ (is_visit r.problem t ≡ true)))
         → (n ≡ most) ⊎ HasToStop (record { problem = q; branch = r.branch; mark = r.mark; position = t }) event
     stops_there most room q same asked stops = subst (λ p. (n ≡ most) ⊎ HasToStop (record { problem = p; branch = r.branch; mark = r.mark; position = t }) event) (sym same) (by stops asked)
@@ -268,22 +293,22 @@ module _ (r : RunnerValue) (steps : ℕ) (visited : List (List ℕ)) (counts : L
         by : (n ≡ room) ⊎ ((event ≢ Moved) ⊎ (IsAtCut t (end_choices r.branch.hi) ⊎ (is_visit r.problem t ≡ true))) → (room ≡ most) ⊎ (steps + room ≡ most_steps) → (n ≡ most) ⊎ HasToStop (record r { position = t }) event
         by (inl e) (inl f) = inl (e ∙ f)
         by (inl e) (inr f) = inr (inr (inl (λ can. can.has_room (let g = steps_to n (le_refl n) in let h = ap (steps_between r.problem r.mark) walk.reaches.ends in omega arith))))
-        by (inr (inl h)) asked = inr (inl h)
+        by (inr (inl h)) asked = inr (told event refl h)
         by (inr (inr (inl c))) asked = inr (inr (inl (λ can. can.goes_on (end_is_cut r.branch.hi t c))))
         by (inr (inr (inr v))) asked = inr (inr (inr v))
 
-    -- no step was taken though one was asked for: there is a visit, for which there is no memory
-    pub visit_refused : (room : ℕ) → n ≡ 0 → 0 < room → (r.position ≡ end_of r.branch.hi → ⊥) → (n ≡ room) ⊎ ((event ≢ Moved) ⊎ (IsAtCut t (end_choices r.branch.hi) ⊎ (is_visit r.problem t ≡ true))) → is_visit r.problem r.position ≡ true
-    visit_refused room z some off stops = by stops
+    -- no step was taken: none was asked for, or the runner is held up, where there is no memory for a visit
+    pub none_taken : (most room : ℕ) → n ≡ 0 → (room ≡ most) ⊎ (steps + room ≡ most_steps) → (n ≡ room) ⊎ ((event ≢ Moved) ⊎ (IsAtCut t (end_choices r.branch.hi) ⊎ (is_visit r.problem t ≡ true)))
+        → (most ≡ 0) ⊎ IsHeldUp r
+    none_taken most room z asked stops = by (stops_there most room r.problem refl asked stops)
       where
         same : t ≡ r.position
         same = sym walk.reaches.ends ∙ ap (λ i. after r.problem i r.position) z
 
-        by : (n ≡ room) ⊎ ((event ≢ Moved) ⊎ (IsAtCut t (end_choices r.branch.hi) ⊎ (is_visit r.problem t ≡ true))) → is_visit r.problem r.position ≡ true
-        by (inl e) = absurd (omega arith)
-        by (inr (inl h)) = absurd (h (walk.tells ∙ ap (λ i. last_event r.problem i r.position) z))
-        by (inr (inr (inl c))) = absurd (off (sym same ∙ end_is_cut r.branch.hi t c))
-        by (inr (inr (inr v))) = subst (λ u. is_visit r.problem u ≡ true) same v
+        by : (n ≡ most) ⊎ HasToStop (record r { position = t }) event → (most ≡ 0) ⊎ IsHeldUp r
+        by (inl e) = inl (sym e ∙ z)
+        by (inr (inl v)) = let tells = walk.tells ∙ ap (λ i. last_event r.problem i r.position) z in absurd (cc)
+        by (inr (inr h)) = inr (subst (λ u. IsHeldUp (record r { position = u })) same h)
 
 -- as many steps as are asked for, or as many as can be counted
 pub room_asked : (most steps room : ℕ) → steps ≤ most_steps → room ≡ min most (most_steps - steps) → (room ≡ most) ⊎ (steps + room ≡ most_steps)

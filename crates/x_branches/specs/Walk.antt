@@ -1,5 +1,5 @@
 -- Many steps of a runner at once: the choices of a branch's end (`end_choices`), a runner some steps on (`advanced_by`), that it can take
--- them (`CanAdvanceBy`), and why a walk stops before (`HasToStop`).
+-- them (`CanAdvanceBy`), and why a walk stops before (`IsHeldUp`, `HasToStop`).
 --
 -- Example: in the small problem three steps lead a runner from X1 to X4 with the empty path, and a walk stops at X2 with the path 4 5 1,
 -- which is a visit. proofs/RunnerExamples.antt computes it.
@@ -7,7 +7,7 @@ use Rattle.std.specs.Prelude.{ℕ, ◌<◌, ◌≡◌, ◌≢◌, ◌⊎◌, tru
 use Rattle.std.specs.Prelude as prelude
 use Rattle.cover_problem.specs.Problem.{ProblemValue}
 use Rattle.x_steps.specs.declared.event.Event.{Event}
-use Rattle.x_steps.specs.declared.event.Event.TheVariants.{Moved}
+use Rattle.x_steps.specs.declared.event.Event.TheVariants.{Moved, Visited}
 use Rattle.x_steps.specs.declared.machine.walk.Walk.{Walk}
 use Rattle.x_steps.specs.StateValue.{StateValue}
 use Rattle.x_steps.specs.Steps.{is_visit}
@@ -31,10 +31,13 @@ advanced_by r n = record r { position = after r.problem n r.position }
 abbrev pub CanAdvanceBy : RunnerValue → ℕ → Type 0
 CanAdvanceBy r n = (i : ℕ) → i < n → CanAdvance (advanced_by r i)
 
--- a walk stops here though more steps are asked for: its last step came to a visit or to the end of the run, no step can be taken,
--- or the next one is a visit's, which takes memory
+-- no step can be taken, or the next one is a visit's, which takes memory
+abbrev pub IsHeldUp : RunnerValue → Type 0
+IsHeldUp r = (CanAdvance r → ⊥) ⊎ (is_visit r.problem r.position ≡ true)
+
+-- a walk stops here though more steps are asked for: its last step came to a visit, or the runner is held up
 abbrev pub HasToStop : RunnerValue → Event → Type 0
-HasToStop r event = (event ≢ Moved) ⊎ ((CanAdvance r → ⊥) ⊎ (is_visit r.problem r.position ≡ true))
+HasToStop r event = (event ≡ Visited) ⊎ IsHeldUp r
 
 -- a state's visit is added, where a walk came to one
 abbrev pub AddsVisit : List (List ℕ) → List (List ℕ) → Event → StateValue → Type 0

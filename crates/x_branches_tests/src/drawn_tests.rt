@@ -209,7 +209,7 @@ impl Parts {
         runner: &mut Runner<'_, T>,
         seed: &mut u64,
     ) -> Option<bool> {
-        match draw(seed) % 8 {
+        match draw(seed) % 9 {
             0 => on(self.cut(alloc, runner)),
             1 => on(self.post(runner)),
             2 => on(reopen(runner)),
@@ -218,6 +218,7 @@ impl Parts {
                 Some(true)
             }
             4 => Some(runner.walk(draw(seed) % 9).is_ok()),
+            5 => Some(runner.advance_by(draw(seed) % 40).is_ok()),
             _ => Some(runner.advance().is_ok()),
         }
     }

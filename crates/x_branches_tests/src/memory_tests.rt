@@ -14,6 +14,8 @@ use x_steps::{AtFault, Cursor, Event, Label, Refused, State};
 #[derive(Clone, Copy)]
 enum Call {
     Advance,
+    /// So many steps at once.
+    AdvanceBy(u32),
     /// The cut at an option of a level.
     Cut(usize, u32),
     TakeStretch,
@@ -23,6 +25,7 @@ enum Call {
 #[derive(Drop)]
 enum Answer<'p> {
     Event(Event),
+    Steps(u32),
     Cut(Cut<'p>),
     Stretch(Stretch<'p>),
 }
@@ -40,6 +43,7 @@ impl Answer<'_> {
     fn same(&self, other: &Answer<'_>) -> bool {
         match (self, other) {
             (Answer::Event(one), Answer::Event(other)) => one == other,
+            (Answer::Steps(one), Answer::Steps(other)) => one == other,
             (Answer::Cut(one), Answer::Cut(other)) => one.same(other),
             (Answer::Stretch(one), Answer::Stretch(other)) => are_stretches(one, other),
             _ => false,
@@ -59,6 +63,7 @@ fn take_stretch<'p>(runner: &mut Runner<'p, PlainTable>) -> Result<Stretch<'p>, 
 fn make<'p>(runner: &mut Runner<'p, PlainTable>, call: Call) -> Result<Answer<'p>, RunnerFault> {
     match call {
         Call::Advance => Ok(Answer::Event(runner.advance()?)),
+        Call::AdvanceBy(most) => Ok(Answer::Steps(runner.advance_by(most)?)),
         Call::Cut(level, option) => Ok(Answer::Cut(runner.cut(level, option)?)),
         Call::TakeStretch => Ok(Answer::Stretch(take_stretch(runner)?)),
     }
@@ -209,6 +214,12 @@ fn is_answered_in_small(alloc: Global, steps: u32, call: Call) -> Result<bool, F
 #[test]
 fn a_refused_visit_is_made_again(rt: HostRuntime) -> Result<(), Fail> {
     assert!(rt; is_answered_in_small(rt.alloc(), 29, Call::Advance)?);
+    Ok(())
+}
+
+#[test]
+fn a_refused_visit_is_made_again_with_the_steps_behind_it(rt: HostRuntime) -> Result<(), Fail> {
+    assert!(rt; is_answered_in_small(rt.alloc(), 29, Call::AdvanceBy(14))?);
     Ok(())
 }
 

@@ -11,6 +11,8 @@ enum Row {
     Advances(u32),
     /// Of so many steps so many are taken at once, and the last one tells this.
     Walks(u32, u32, Event),
+    /// Of so many steps so many are taken at once, past a visit too.
+    AdvancesBy(u32, u32),
     /// It stands at X5 at this option, with no choice before it and so many steps unposted.
     StandsAt(u32, u32),
     /// No step on is taken, one by one or at once.
@@ -35,6 +37,7 @@ impl Row {
         match self {
             Row::Advances(steps) => advances(runner, *steps),
             Row::Walks(most, steps, event) => walks(runner, *most, *steps, *event),
+            Row::AdvancesBy(most, steps) => runner.advance_by(*most) == Ok(*steps),
             Row::StandsAt(option, steps) => stands_at(runner, *option, *steps),
             Row::IsAtEnd => is_at_end(runner),
             Row::IsAtMark => runner.retreat() == Err(RunnerFault::AtMark),
@@ -61,10 +64,11 @@ fn stands_at<T: Table>(runner: &Runner<'_, T>, option: u32, steps: u32) -> bool 
 }
 
 fn is_at_end<T: Table>(runner: &mut Runner<'_, T>) -> bool {
-    match (runner.advance(), runner.walk(1)) {
+    let is_refused = match (runner.advance(), runner.walk(1)) {
         (Err(one), Err(many)) => one == RunnerFault::AtBranchEnd && many == one,
         _ => false,
-    }
+    };
+    is_refused && runner.advance_by(1) == Err(RunnerFault::AtBranchEnd)
 }
 
 fn is_untried<T: Table>(runner: &Runner<'_, T>, level: usize, options: &[u32]) -> bool {
@@ -319,12 +323,34 @@ const WALKED_TO_A_CUT: [Row; 6] = [
     }),
 ];
 
-static PLAYS: [Play; 5] = [
+const ADVANCED_AT_ONCE: [Row; 5] = [
+    Row::AdvancesBy(0, 0),
+    Row::AdvancesBy(5, 5),
+    Row::AdvancesBy(100, 38),
+    Row::IsAtEnd,
+    Row::HandsOut(Parts {
+        steps: 43,
+        visits: &[&[4, 5, 1]],
+        levels: &[1, 2, 2, 1],
+    }),
+];
+
+const ADVANCED_TO_A_CUT: [Row; 5] = [
+    Row::Advances(5),
+    Row::Shortens(0, 4),
+    Row::AdvancesBy(100, 15),
+    Row::StandsAt(4, 20),
+    Row::IsAtEnd,
+];
+
+static PLAYS: [Play; 7] = [
     Play(&[], &CUT_AND_WALKED),
     Play(&[4], &REST),
     Play(&[], &JOINED_AGAIN),
     Play(&[], &WALKED),
     Play(&[], &WALKED_TO_A_CUT),
+    Play(&[], &ADVANCED_AT_ONCE),
+    Play(&[], &ADVANCED_TO_A_CUT),
 ];
 
 #[test]

@@ -47,20 +47,11 @@ pub(crate) enum Next {
 fn walk_on<T: Table>(runner: &mut Runner<'_, T>) -> Result<(), AllocError>
     ensures problem { runner.new.problem ≡ runner.old.problem }
 {
-    let mut left = STEPS;
-    'walking: for _ in 0..STEPS {
-        if left == 0 {
-            break;
-        }
-        // A walk stops at each visit, so that it can be kept.
-        match runner.walk(left) {
-            Ok(walk) => left -= walk.steps,
-            Err(RunnerFault::OutOfMemory) => return Err(AllocError),
-            // At the branch's end, or where a stretch is full: what was walked is posted then.
-            Err(_) => break,
-        }
+    match runner.advance_by(STEPS) {
+        Err(RunnerFault::OutOfMemory) => Err(AllocError),
+        // Also at the branch's end, or where a stretch is full: what was walked is posted then.
+        _ => Ok(()),
     }
-    Ok(())
 }
 
 /// A runner at the first state of a problem's run, from where each tile can be reached; None when out of memory.

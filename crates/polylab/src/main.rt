@@ -14,11 +14,8 @@ use std::process::ExitCode;
 
 /// The words of the command line, without the program's name.
 fn words(rt: &HostRuntime) -> io::Result<Vec<String>> {
-    let mut words = Vec::new(rt.alloc());
     // The first is the program's name.
-    for word in env::args(rt)?.skip(1) {
-        words.push(word)?;
-    }
+    let words = env::args(rt)?.skip(1).collect::<Vec<String>>(rt.alloc())?;
     Ok(words)
 }
 
@@ -38,14 +35,14 @@ fn no_words(alloc: Global, error: &io::Error) -> LineFault
 
 /// The job that these words ask for.
 fn job_of(alloc: Global, words: &[String]) -> Result<Request, LineFault> {
-    let words = words
+    let Ok(words) = words
         .iter()
         .map(|word| word.as_str())
-        .collect::<Vec<&str>>(alloc);
-    match words {
-        Ok(words) => parse_line(alloc, &words),
-        Err(_) => Err(LineFault::OutOfMemory),
-    }
+        .collect::<Vec<&str>>(alloc)
+    else {
+        return Err(LineFault::OutOfMemory);
+    };
+    parse_line(alloc, &words)
 }
 
 /// The job that the command line asks for.

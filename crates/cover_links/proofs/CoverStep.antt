@@ -210,7 +210,7 @@ module _ (p : ProblemValue) (c : List ℕ) (i : ℕ) (es : List Entry) (problem 
   can = record {
     small = (let w = u.within in let f = few_items p problem in omega arith);
     here = here (shown_of p c) (active_of p c) es s;
-    options = subst (λ (w : ℕ × ℕ). CanHideList es i w.0 w.1) (λ z. (sym down_is z, sym top_is z)) walk.can;
+    options = subst (λ (w : ℕ × ℕ). CanHideList es w.0 w.1) (λ z. (sym down_is z, sym top_is z)) walk.can;
     row = subst (λ gs. IsItemInside gs i) (sym options_is) (record { here = here (shown_of p (c ++ i ∷ [])) (active_of p c) fs fs_stands; before = (row.linked).before; after = (row.linked).after });
   }
 
@@ -240,7 +240,7 @@ module _ (p : ProblemValue) (c : List ℕ) (i : ℕ) (es : List Entry) (problem 
       before = subst (λ n. n < length (item_unlinked fs i)) (sym (leaves_prev (item_unlinked_leaves fs i row.linked))) (subst (λ n. left_at fs i < n) (sym (length-item_unlinked fs i)) (row.linked).before);
       after = subst (λ n. n < length (item_unlinked fs i)) (sym (leaves_next (item_unlinked_leaves fs i row.linked))) (subst (λ n. right_at fs i < n) (sym (length-item_unlinked fs i)) (row.linked).after);
     };
-    options = subst (λ (w : List Entry × ℕ × ℕ). CanUnhideList w.0 i w.1 w.2) (λ z. (sym again z, (sym up_is ∙ (λ l. up_at (sym again l) i)) z, (sym top_again ∙ (λ l. top_at (sym again l) i)) z)) (walk.back_can 0 refl);
+    options = subst (λ (w : List Entry × ℕ × ℕ). CanUnhideList w.0 w.1 w.2) (λ z. (sym again z, (sym up_is ∙ (λ l. up_at (sym again l) i)) z, (sym top_again ∙ (λ l. top_at (sym again l) i)) z)) (walk.back_can 0 tt);
   }
 
   pub cover_done : CoverDone p c i es

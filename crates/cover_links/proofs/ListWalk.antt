@@ -9,7 +9,7 @@ use Rattle.cover_links.specs.Hiding.{hidden, list_hidden, list_unhidden}
 use Rattle.cover_links.specs.Safety.{CanHideList, CanUnhideList}
 use Rattle.cover_links.specs.Ring.{Follows}
 use Rattle.cover_links.specs.Layout.{node_index}
-use Rattle.cover_links.proofs.LayoutLemmas.{IsNode, place_high}
+use Rattle.cover_links.proofs.LayoutLemmas.{IsNode}
 use Rattle.cover_links.proofs.HidingLemmas.{Stands, down_at, up_at}
 use Rattle.cover_links.proofs.RunLemmas.{option_gone, HideDone, hide_done, column_kept, option_stays, option_was}
 
@@ -66,13 +66,13 @@ list_gone p i shown (k ∷ rs) = list_gone p i (option_gone p i shown k) rs
 -- from the block es, where the walk stands at the place x of the item i's list and the options of rs come next
 pub record ListDone (p : ProblemValue) (i : ℕ) (shown : ℕ → ℕ → Bool) (active : ℕ → Bool) (es : List Entry) (x : ℕ) (rs : List ℕ) : Type 0 where
   pub stands : Stands p shown active (list_hidden es (node_index p i (first_of rs)) (length rs))
-  pub can : CanHideList es i (node_index p i (first_of rs)) (length rs)
+  pub can : CanHideList es (node_index p i (first_of rs)) (length rs)
   pub back : (m : ℕ) → list_unhidden (list_hidden es (node_index p i (first_of rs)) (length rs)) (node_index p i (last_from x rs)) (length rs + m) ≡ list_unhidden es (node_index p i x) m
-  pub back_can : (m : ℕ) → CanUnhideList es i (node_index p i x) m → CanUnhideList (list_hidden es (node_index p i (first_of rs)) (length rs)) i (node_index p i (last_from x rs)) (length rs + m)
+  pub back_can : (m : ℕ) → CanUnhideList es (node_index p i x) m → CanUnhideList (list_hidden es (node_index p i (first_of rs)) (length rs)) (node_index p i (last_from x rs)) (length rs + m)
 
 -- one option, and the rest
 module _ (p : ProblemValue) (active : ℕ → Bool) (problem : IsProblem p) (i : ℕ) (pos : 0 < i) (le : i ≤ length p.names) (shown : ℕ → ℕ → Bool) (es : List Entry) (s : Stands p shown active es)
-    (k : ℕ) (rs : List ℕ) (x : ℕ) (chain : IsChain (shown i) x (k ∷ rs)) (shown' : ℕ → ℕ → Bool) (mine : shown' i ≡ shown i) (d : HideDone p shown' active es (node_index p i k)) (final : ℕ → ℕ → Bool) (rest : ListDone p i final active (hidden es (node_index p i k)) k rs) (apart : node_index p i k ≡ i → ⊥) where
+    (k : ℕ) (rs : List ℕ) (x : ℕ) (chain : IsChain (shown i) x (k ∷ rs)) (shown' : ℕ → ℕ → Bool) (mine : shown' i ≡ shown i) (d : HideDone p shown' active es (node_index p i k)) (final : ℕ → ℕ → Bool) (rest : ListDone p i final active (hidden es (node_index p i k)) k rs) where
   abbrev q : ℕ
   q = node_index p i k
 
@@ -94,20 +94,20 @@ module _ (p : ProblemValue) (active : ℕ → Bool) (problem : IsProblem p) (i :
   pub walk_step : ListDone p i final active es x (k ∷ rs)
   walk_step = record {
     stands = subst (λ fs. Stands p final active fs) (sym end_is) rest.stands;
-    can = (apart, d.can, subst (λ n. CanHideList mid i n (length rs)) (sym down_is) rest.can);
+    can = (d.can, subst (λ n. CanHideList mid n (length rs)) (sym down_is) rest.can);
     back = λ m.
         let e : suc (length rs) + m ≡ length rs + suc m = omega arith in
         (λ j. list_unhidden (end_is j) (node_index p i (last_from k rs)) (e j)) ∙ rest.back (suc m) ∙ (λ j. list_unhidden (d.back j) (up_at (d.back j) q) m) ∙ ap (λ n. list_unhidden es n m) up_is;
     back_can = λ m c.
         let e : length rs + suc m ≡ suc (length rs) + m = omega arith in
-        let here : CanUnhideList mid i q (suc m) = (apart, d.back_can, subst (λ (w : List Entry × ℕ). CanUnhideList w.0 i w.1 m) (λ j. (sym d.back j, (sym up_is ∙ sym (λ l. up_at (d.back l) q)) j)) c) in
-        subst (λ (w : List Entry × ℕ). CanUnhideList w.0 i (node_index p i (last_from k rs)) w.1) (λ j. (sym end_is j, e j)) (rest.back_can (suc m) here);
+        let here : CanUnhideList mid q (suc m) = (d.back_can, subst (λ (w : List Entry × ℕ). CanUnhideList w.0 w.1 m) (λ j. (sym d.back j, (sym up_is ∙ sym (λ l. up_at (d.back l) q)) j)) c) in
+        subst (λ (w : List Entry × ℕ). CanUnhideList w.0 (node_index p i (last_from k rs)) w.1) (λ j. (sym end_is j, e j)) (rest.back_can (suc m) here);
   }
 
 pub list_done : (p : ProblemValue) (active : ℕ → Bool) → IsProblem p → (i : ℕ) → 0 < i → i ≤ length p.names → (rs : List ℕ) (shown : ℕ → ℕ → Bool) (es : List Entry) (x : ℕ) → Stands p shown active es → IsChain (shown i) x rs → are_distinct rs ≡ true
     → ((k : ℕ) → has rs k ≡ true → IsNode p i k) → ((k : ℕ) → has rs k ≡ true → (j : ℕ) → has (option_at p k) j ≡ true → shown j k ≡ true)
     → ListDone p i (list_gone p i shown rs) active es x rs
-list_done p active problem i pos le [] shown es x s chain d nodes all = record { stands = s; can = refl; back = λ m. (λ j. list_unhidden es (node_index p i x) ((let e : 0 + m ≡ m = omega arith in e) j)); back_can = λ m c. subst (λ n. CanUnhideList es i (node_index p i x) n) (let e : m ≡ 0 + m = omega arith in e) c }
+list_done p active problem i pos le [] shown es x s chain d nodes all = record { stands = s; can = tt; back = λ m. (λ j. list_unhidden es (node_index p i x) ((let e : 0 + m ≡ m = omega arith in e) j)); back_can = λ m c. subst (λ n. CanUnhideList es (node_index p i x) n) (let e : m ≡ 0 + m = omega arith in e) c }
 list_done p active problem i pos le (zero ∷ rs) shown es x s chain d nodes all = absurd (let n = nodes zero (has_here zero rs) in omega (arith, n.some))
 list_done p active problem i pos le (suc k ∷ rs) shown es x s chain d nodes all =
     let n = nodes (suc k) (has_here (suc k) rs) in
@@ -116,7 +116,6 @@ list_done p active problem i pos le (suc k ∷ rs) shown es x s chain d nodes al
     walk_step p active problem i pos le shown es s (suc k) rs x chain (option_gone p i shown (suc k)) mine h (list_gone p i shown (suc k ∷ rs))
     (list_done p active problem i pos le rs (option_gone p i shown (suc k)) (hidden es (node_index p i (suc k))) (suc k) h.stands (subst (λ f. IsChain f (suc k) rs) (sym mine) chain.1) (apart d).1
     (λ m g. nodes m (has_later (suc k) rs m g)) (λ m g j f. stays m j (apart d).0 g ∙ all m (has_later (suc k) rs m g) j f))
-    (λ e. let z = place_high p i (suc k) n in absurd (omega arith))
   where
     apart : are_distinct (suc k ∷ rs) ≡ true → (has rs (suc k) ≡ false) × (are_distinct rs ≡ true)
     apart e = pick (has rs (suc k)) refl

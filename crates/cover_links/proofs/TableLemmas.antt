@@ -1,6 +1,6 @@
 -- What is read off the links of a table.
-use Rattle.std.proofs.Common.{◌≡◌, ℕ, zero, suc, ◌+◌, ◌-◌, ◌*◌, ◌^◌, ◌<◌, ◌≤◌, ◌⊎◌, inl, inr, ◌==◌, true, false, Option, Some, None, unwrap_or, List, [], ◌∷◌, ◌++◌, length, length-append, filter, get_or, take, refl, sym, ap, ◌∙◌, subst, arith}
-use Rattle.std.proofs.lemmas.Bool.{eq-eqb, ne_eqb}
+use Rattle.std.proofs.Common.{◌≡◌, ℕ, zero, suc, ◌+◌, ◌-◌, ◌*◌, ◌^◌, ◌<◌, ◌≤◌, ◌⊎◌, inl, inr, ◌==◌, Bool, true, false, Option, Some, None, unwrap_or, List, [], ◌∷◌, ◌++◌, length, length-append, filter, get_or, take, refl, sym, ap, ◌∙◌, subst, arith}
+use Rattle.std.proofs.lemmas.Bool.{eq-eqb, ne_eqb, cases_lt, false≢true, true≢false}
 use Rattle.std.proofs.Math.Seq.{take-append_seam}
 use Rattle.cover_problem.specs.Lists.{has, numbers, above, below, last_of}
 use Rattle.cover_problem.specs.Problem.{ProblemValue, option_at, size_of}
@@ -20,7 +20,7 @@ use Rattle.cover_links.specs.Safety.{CanCoverItem, CanUncoverItem}
 use Rattle.cover_links.specs.StandsFor.{block_of}
 use Rattle.cover_links.specs.Layout.{node_index, spacer_of, start_of, index_of}
 use Rattle.cover_links.specs.Ring.{Follows}
-use Rattle.cover_links.specs.Table.{IsTable, nonzero, IsHeadOrNode}
+use Rattle.cover_links.specs.Table.{IsTable, nonzero, IsHeadOrNode, is_spacer}
 use Rattle.cover_links.proofs.LayoutLemmas.{IsNode, IsRun, next_place, option_run, place_high, place_low, spacer_low, start_low, start_last, index_below}
 use Rattle.cover_links.proofs.BuildLemmas.{size_small, place_between, after_between}
 use Rattle.cover_links.proofs.RingLemmas.{next_is, prev_is, last_to_head, next_member}
@@ -49,6 +49,10 @@ at_view {p} {c} {items} {block} {starts} {room} e t = subst (λ (v : TableValue)
 
 pub uncovered_in : {p : ProblemValue} {c : List ℕ} {v : TableValue} {j : ℕ} → record { problem = p; covered = c } ≡ v → IsUncovered v.problem v.covered j → IsUncovered p c j
 uncovered_in {p} {c} {v} {j} e u = subst (λ (v : TableValue). IsUncovered v.problem v.covered j) (sym e) u
+
+-- whether a spacer stands at y, as it was read and told
+pub seen_at : (es : List Entry) (y : ℕ) {e : Entry} {b v : Bool} → b ≡ is_spacer e → b ≡ v → e ≡ entry_at es y → is_spacer (entry_at es y) ≡ v
+seen_at es y told seen read = ap is_spacer (sym read) ∙ sym told ∙ seen
 
 -- inside a list the default is not read
 any_default : (xs : List ℕ) (i d f : ℕ) → i < length xs → get_or xs i d ≡ get_or xs i f
@@ -205,7 +209,7 @@ module _ {p : ProblemValue} {c : List ℕ} {items : ℕ} {block : List Entry} {s
   pub start_is : (k : ℕ) {b : ℕ} → k ≤ length p.options → b ≡ get_or starts k b → b ≡ start_of p k
   start_is k {b} le read = read ∙ any_default starts k b 0 (let n = t.count in omega arith) ∙ t.each k le
 
-  -- the places of an option, from its first node to the one of an item that it has
+  -- the places of an option, up to its spacer, and of an item that it has
   module _ (j o : ℕ) (some : 0 < o) (le : o ≤ length p.options) (h : has (option_at p o) j ≡ true) where
     back : suc (o - 1) ≡ o
     back = omega arith
@@ -219,19 +223,38 @@ module _ {p : ProblemValue} {c : List ℕ} {items : ℕ} {block : List Entry} {s
     pub place_from : start_of p (o - 1) ≤ node_index p j o
     place_from = let q = place_is in omega arith
 
-    pub place_inside : node_index p j o < length block
-    place_inside = let low = place_low p j o node in let s = (stands).size in omega arith
+    spacer_is : spacer_of p o ≡ start_of p (o - 1) + length (option_at p o)
+    spacer_is = ap (spacer_of p) (sym back) ∙ ap (λ k. start_of p (o - 1) + length (option_at p k)) back
+
+    pub place_below : node_index p j o < spacer_of p o
+    place_below = let q = place_is in let r = spacer_is in let i = index_below (option_at p o) j h in omega arith
+
+    pub spacer_inside : spacer_of p o < length block
+    spacer_inside = let b = (spacer_low p o some le).1 in let s = (stands).size in omega arith
 
     pub item_small : j < 2 ^ 28
     item_small = let i = (option_is p o t.problem some le).items j h in let l = item_low j i.1 in let z = block_small in omega arith
 
-    -- of these places it alone tells the item
+    -- past the option stands the first entry that leads to no next node
+    pub not_past : (x : ℕ) → x ≤ spacer_of p o → is_spacer (entry_at block x) ≡ false → x < spacer_of p o
+    not_past x high f =
+        let apart : x ≡ spacer_of p o → ⊥ = λ e. false≢true (sym f ∙ ap (λ y. is_spacer (entry_at block y)) e ∙ eq-eqb (bytes_at block (spacer_of p o)) 0 ((stands).blanks o some le)) in
+        omega (arith, high, apart)
+
+    pub is_past : (x : ℕ) → start_of p (o - 1) ≤ x → x ≤ spacer_of p o → is_spacer (entry_at block x) ≡ true → x ≡ spacer_of p o
+    is_past x low high f = elim (cases_lt x (spacer_of p o)) [
+      | inl less ↦ let m = between_node o x some le low less in let l = start_low p (o - 1) in let a = m.1 in let b = m.2 in
+          absurd (true≢false (sym f ∙ ne_eqb (bytes_at block x) 0 (λ e. absurd (omega arith))))
+      | inr most ↦ omega arith
+    ]
+
+    -- of the option's nodes one alone tells the item
     pub top_here : top_at block (node_index p j o) ≡ j
     top_here = (stands).tops j o node
 
-    pub item_here : (x : ℕ) → start_of p (o - 1) ≤ x → x ≤ node_index p j o → node_index p (top_at block x) o ≡ x
+    pub item_here : (x : ℕ) → start_of p (o - 1) ≤ x → x < spacer_of p o → node_index p (top_at block x) o ≡ x
     item_here x low high =
-        let q = place_is in let i = index_below (option_at p o) j h in let size = ap (λ k. length (option_at p k)) back in
+        let r = spacer_is in let size = ap (λ k. length (option_at p k)) back in
         let n : start_of p (o - 1) + (x - start_of p (o - 1)) ≡ x = omega arith in
         let r = item_at (o - 1) (x - start_of p (o - 1)) (omega arith) (omega arith) in
         (λ i. node_index p (top_at block (sym n i)) (sym back i)) ∙ r ∙ n

@@ -62,28 +62,28 @@ pub record CanUnhide (es : List Entry) (p : ℕ) : Type 0 where
   pub round : GoesRound es p
   pub nodes : CanUnhideNodes es (other_nodes es p)
 
--- the options of n nodes can be hidden, from p down to the one above the head i
-abbrev pub CanHideList : List Entry → ℕ → ℕ → ℕ → Type 0
-CanHideList es i p zero = p ≡ i
-CanHideList es i p (suc n) = (p ≡ i → ⊥) × CanHide es p × CanHideList (hidden es p) i (entry_at (hidden es p) p).down n
+-- the options of n nodes can be hidden, from p down
+abbrev pub CanHideList : List Entry → ℕ → ℕ → Type 0
+CanHideList es p zero = Unit {0}
+CanHideList es p (suc n) = CanHide es p × CanHideList (hidden es p) (entry_at (hidden es p) p).down n
 
--- the options of n nodes can come back, from p up to the one below the head i
-abbrev pub CanUnhideList : List Entry → ℕ → ℕ → ℕ → Type 0
-CanUnhideList es i p zero = p ≡ i
-CanUnhideList es i p (suc n) = (p ≡ i → ⊥) × CanUnhide es p × CanUnhideList (unhidden es p) i (entry_at (unhidden es p) p).up n
+-- the options of n nodes can come back, from p up
+abbrev pub CanUnhideList : List Entry → ℕ → ℕ → Type 0
+CanUnhideList es p zero = Unit {0}
+CanUnhideList es p (suc n) = CanUnhide es p × CanUnhideList (unhidden es p) (entry_at (unhidden es p) p).up n
 
 -- an item can be covered
 pub record CanCoverItem (es : List Entry) (i : ℕ) : Type 0 where
   pub small : i < 2 ^ 16
   pub here : i < length es
-  pub options : CanHideList es i (entry_at es i).down (entry_at es i).top
+  pub options : CanHideList es (entry_at es i).down (entry_at es i).top
   pub row : IsItemInside (options_hidden es i) i
 
 -- an item can be uncovered
 pub record CanUncoverItem (es : List Entry) (i : ℕ) : Type 0 where
   pub small : i < 2 ^ 16
   pub row : IsItemInside es i
-  pub options : CanUnhideList (item_relinked es i) i (entry_at (item_relinked es i) i).up (entry_at (item_relinked es i) i).top
+  pub options : CanUnhideList (item_relinked es i) (entry_at (item_relinked es i) i).up (entry_at (item_relinked es i) i).top
 
 -- a node can be appended
 pub record CanAppendNode (es : List Entry) (x i next : ℕ) : Type 0 where

@@ -192,9 +192,11 @@ fn cover_in(row: &mut Row, base: Base, item: Offset)
     ensures place { row.new.place ≡ row.old.place }
     ensures entries { row.new.entries ≡ item_covered row.old.entries item }
 {
-    // Hiding doesn't touch the item's own list, which leads back to its head.
-    let mut node = row.read(base, item).down;
-    while !node.is(item) {
+    // Hiding doesn't touch the item's own list, which has as many nodes as its head tells. A walk that looks for the head would learn
+    // its end only when each link has been read: the processor guesses ends, and is to find a wrong guess early.
+    let head = row.read(base, item);
+    let mut node = head.down;
+    for _ in 0..head.top.index() {
         hide(row, base, node);
         node = row.read(base, node).down;
     }
@@ -211,8 +213,9 @@ fn uncover_in(row: &mut Row, base: Base, item: Offset)
     // The last step of `cover_in` is undone first.
     relink_item(row, base, item);
     // From the last node up: links work only when they come back in the reverse order (formulas (14) and (15)).
-    let mut node = row.read(base, item).up;
-    while !node.is(item) {
+    let head = row.read(base, item);
+    let mut node = head.up;
+    for _ in 0..head.top.index() {
         unhide(row, base, node);
         node = row.read(base, node).up;
     }

@@ -115,11 +115,16 @@ impl LinkTable {
         requires has_item { has (problem.option_at self.now.problem option) item ≡ true }
         ensures { result ≡ node_index self.now.problem item option * entry_size }
     {
-        // The search keeps the numbers of options, where the literature keeps nodes: so an option of few items is gone through.
-        let mut here = self.starts[(option - 1) as usize] as usize * size_of::<Entry>();
+        // The search keeps the numbers of options, where the literature keeps nodes: so an option of few items is gone through. To its
+        // end, since which of its nodes is the item's can't be foretold: no jump hangs on it.
+        let mut past = self.starts[(option - 1) as usize] as usize * size_of::<Entry>();
+        let mut here = past;
         let head = Offset::at(item);
-        while !self.block.read_at(here).top.is(head) {
-            here += size_of::<Entry>();
+        while !is_spacer(self.block.read_at(past)) {
+            if self.block.read_at(past).top.is(head) {
+                here = past;
+            }
+            past += size_of::<Entry>();
         }
         here
     }
@@ -203,6 +208,7 @@ impl Table for LinkTable {
         option_at(&self.block, Offset::at(item), node)
     }
 
+    #[inline(always)]
     fn next_option(&self, item: u32, option: u32) -> Option<u32> {
         let here = self.node_of(item, option);
         let node = self.block.read_at(here).down;

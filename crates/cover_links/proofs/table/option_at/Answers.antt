@@ -1,13 +1,10 @@
-use Rattle.std.proofs.Common.{◌≡◌, ℕ, suc, ◌<◌, ◌≤◌, ◌==◌, inl, inr, Bool, true, false, Some, List, refl, sym, ap, ◌∙◌, arith}
+use Rattle.std.proofs.Common.{◌≡◌, ℕ, suc, ◌<◌, ◌≤◌, ◌==◌, inl, inr, true, false, Some, List, refl, sym, ap, ◌∙◌, arith}
 use Rattle.std.proofs.lemmas.Bool.{ne_eqb, cases_lt, false≢true, true≢false}
 use Rattle.cover_links.specs.declared.entry.Entry.{Entry}
 use Rattle.cover_links.specs.Entries.{entry_at}
 use Rattle.cover_links.specs.Table.{IsNodeOf, IsHeadOrNode, nonzero, is_spacer}
+use Rattle.cover_links.proofs.TableLemmas.{seen_at}
 use Rattle.cover_links.proofs.table.option_at.Goals as goal
-
--- what is read at y
-seen_at : (es : List Entry) (y : ℕ) {e : Entry} {b v : Bool} → b ≡ is_spacer e → b ≡ v → e ≡ entry_at es y → is_spacer (entry_at es y) ≡ v
-seen_at es y told seen read = ap is_spacer (sym read) ∙ sym told ∙ seen
 
 -- the first spacer past a node tells the number
 first_tells : (es : List Entry) (item node y k : ℕ) → node < y → is_spacer (entry_at es y) ≡ true → ((x j : ℕ) → IsNodeOf es item node x j → y ≤ x)

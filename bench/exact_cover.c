@@ -7,13 +7,16 @@
    With STEPS the search ends before the first X2 that comes after so many steps, and what it met so far is told, as
    `polylab resume --list --steps` tells it of the steps that are printed.
 
-   X3 takes the first item whose list is the shortest. The search has four forms:
+   X3 takes the first item whose list is the shortest. The search has five forms:
 
    - Dancing links in the published form. The nodes have 32-bit fields TOP (LEN in a head), ULINK and DLINK, and a spacer
      stands between options; the row of items has LLINK and RLINK.
    - With -DRING a node has a fourth link, to the next node of its option (the first one after the last), so that hiding
      and unhiding test no spacer: within an option they may go in one order, since its nodes stand in lists of their own.
    - With -DOFFSETS the links of that ring are counted in bytes, so that no number is multiplied by the size of a node.
+   - With -DCOUNTED there are fewer jumps beside that that a processor guesses wrong: a list is gone through by its length,
+     which is known before its links are read; the items of an option are covered along the ring, and are uncovered as a
+     stack has them, so that neither meets a spacer.
    - With -DBITS there are no links. The options that are left at a level are a set, kept as those words of it that are
      not 0; to take an option, all options that have one of its items are taken out of the set. The lengths of lists are
      counted each time, so the processor should count bits: -march=x86-64-v2 where it is one of those. */
@@ -23,6 +26,9 @@
 #include <stdlib.h>
 #include <string.h>
 
+#ifdef COUNTED
+#define OFFSETS
+#endif
 #ifdef OFFSETS
 #define RING
 #endif
@@ -215,8 +221,18 @@ static void unhide(uint32_t p) {
 }
 #endif
 
+#ifdef COUNTED
+static uint32_t *covered, covered_count;
+#endif
+
 static void cover(uint32_t i) {
+#ifdef COUNTED
+  uint32_t p = NODE(i).down;
+  for (int32_t rest = NODE(i).top; rest; rest--, p = NODE(p).down) hide(p);
+  covered[covered_count++] = i;
+#else
   for (uint32_t p = NODE(i).down; p != i; p = NODE(p).down) hide(p);
+#endif
   uint32_t left = ITEM(i).left, right = ITEM(i).right;
   ITEM(left).right = right;
   ITEM(right).left = left;
@@ -226,7 +242,13 @@ static void uncover(uint32_t i) {
   uint32_t left = ITEM(i).left, right = ITEM(i).right;
   ITEM(left).right = i;
   ITEM(right).left = i;
+#ifdef COUNTED
+  uint32_t p = NODE(i).up;
+  for (int32_t rest = NODE(i).top; rest; rest--, p = NODE(p).up) unhide(p);
+  covered_count--;
+#else
   for (uint32_t p = NODE(i).up; p != i; p = NODE(p).up) unhide(p);
+#endif
 }
 
 static uint32_t chosen(void) {
@@ -255,6 +277,9 @@ static void put_visit(const uint32_t *path, uint32_t level) {
 static void search(void) {
   uint32_t *path = zeros(item_count + 1, sizeof *path), level = 0, deepest = 0, i = 0;
   uint64_t *levels = zeros(item_count + 1, sizeof *levels), visits = 0, steps = 1;
+#ifdef COUNTED
+  covered = zeros(item_count, sizeof *covered);
+#endif
 
 enter: /* X2 */
   if (steps >= most_steps) goto end;
@@ -274,6 +299,9 @@ enter: /* X2 */
 try: /* X5 */
   steps++;
   if (path[level] != i) {
+#ifdef COUNTED
+    for (uint32_t p = NODE(path[level]).next; p != path[level]; p = NODE(p).next) cover((uint32_t)NODE(p).top);
+#else
     for (uint32_t p = path[level] + STEP; p != path[level];) {
       int32_t top = NODE(p).top;
       if (top <= 0) {
@@ -283,6 +311,7 @@ try: /* X5 */
         p += STEP;
       }
     }
+#endif
     level++;
     goto enter;
   }
@@ -293,6 +322,9 @@ leave: /* X8 */
   steps++;
   if (level) {
     level--;
+#ifdef COUNTED
+    while (covered[covered_count - 1] != (uint32_t)NODE(path[level]).top) uncover(covered[covered_count - 1]); /* X6 */
+#else
     for (uint32_t p = path[level] - STEP; p != path[level];) { /* X6 */
       int32_t top = NODE(p).top;
       if (top <= 0) {
@@ -302,6 +334,7 @@ leave: /* X8 */
         p -= STEP;
       }
     }
+#endif
     i = (uint32_t)NODE(path[level]).top;
     path[level] = NODE(path[level]).down;
     steps++;
@@ -310,6 +343,9 @@ leave: /* X8 */
 
 end:
   put_totals(visits, steps, levels, deepest);
+#ifdef COUNTED
+  free(covered);
+#endif
   free(path);
   free(levels);
   free(nodes);

@@ -16,7 +16,7 @@ from inputs import TOP, stop
 
 POLYLAB = os.environ.get("POLYLAB") or os.path.join(TOP, "crates", "polylab", "out", "polylab")
 LEAST = 0.15  # seconds: a shorter run is taken several times in a round
-FORMS = {"": [], "-ring": ["-DRING"], "-offsets": ["-DOFFSETS"], "-bits": ["-DBITS"]}
+FORMS = {"": [], "-ring": ["-DRING"], "-offsets": ["-DOFFSETS"], "-counted": ["-DCOUNTED"], "-bits": ["-DBITS"]}
 
 
 def setting(name, default):

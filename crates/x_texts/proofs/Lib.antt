@@ -1,4 +1,5 @@
 pub mod WordLemmas
+pub mod DigitLemmas
 pub mod EndLemmas
 pub mod WrittenLemmas
 mod WordExamples

@@ -11,7 +11,7 @@ use Rattle.x_texts.specs.declared.breakpoint.Break.TheVariants as breakpoints
 use Rattle.x_texts.specs.Breaks.{is_break, are_new}
 use Rattle.x_texts.specs.Words.{state_words, visit_words}
 use Rattle.x_texts.specs.Writes.{WritesLine}
-use Rattle.x_texts.specs.Ends.{word_ends, IsVisitLine}
+use Rattle.x_texts.specs.Ends.{word_ends, IsVisitLine, IsClosed}
 
 -- one item, and two options of it
 abbrev two : ProblemValue
@@ -55,6 +55,11 @@ line_gained old new e =
 ends_of_words : word_ends 5 (codes "4" ∷ codes "15" ∷ codes "1" ∷ []) ≡ 7 ∷ 10 ∷ 12 ∷ []
 ends_of_words = refl
 
-line_kept : IsVisitLine (codes "visit 4 15 1") (5 ∷ 7 ∷ 10 ∷ 12 ∷ []) (4 ∷ 15 ∷ 1 ∷ [])
+-- where a longer one stood before
+line_kept : IsVisitLine (codes "visit 4 15 1\n3\n") (5 ∷ 7 ∷ 10 ∷ 12 ∷ 14 ∷ []) (4 ∷ 15 ∷ 1 ∷ [])
 unfolding digits
 line_kept = record { written = refl; ended = refl }
+
+line_closed : IsClosed (codes "visit 4 15 1\n3\n") (4 ∷ 15 ∷ 1 ∷ [])
+unfolding digits
+line_closed = refl

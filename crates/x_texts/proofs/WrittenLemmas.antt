@@ -1,22 +1,18 @@
 -- Lines of visits say these visits.
-use Rattle.std.proofs.Common.{◌≡◌, ◌∙◌, ℕ, suc, ◌<◌, ◌^◌, Bool, true, false, ◌&&◌, if◌then◌else◌, nat_le, Some, Result, Ok, Err, List, [], ◌∷◌, ◌++◌, map, get_or, decimal, codes, refl, sym, ap, subst, arith, le_refl}
+use Rattle.std.proofs.Common.{◌≡◌, ◌∙◌, ℕ, suc, ◌<◌, ◌^◌, Bool, true, false, ◌&&◌, if◌then◌else◌, nat_le, Some, Result, Ok, Err, List, [], ◌∷◌, ◌++◌, map, get_or, decimal, refl, sym, ap, subst, arith, le_refl}
 use Rattle.std.specs.Prelude as prelude
-use Rattle.std.specs.Prelude.{OnOk, OnErr}
+use Rattle.std.specs.Prelude.{OnOk, is_ok}
 use Rattle.std.specs.List.{All, list_all}
 use Rattle.std.proofs.lemmas.List.{map-append, flat_map_more}
 use Rattle.std.proofs.lemmas.List.Elements.{All-append, All-nil}
 use Rattle.std.proofs.lemmas.Bool.{and_from}
 use Rattle.text_lines.specs.Numbers.{is_decimal, value_after}
-use Rattle.text_lines.specs.Writing.{is_word, line_text, text_of, words_after}
+use Rattle.text_lines.specs.Writing.{is_word, line_text, text_of}
 use Rattle.text_lines.proofs.NumberLemmas.{reads_printed}
 use Rattle.text_lines.proofs.WritingLemmas.{written_said, printed_is_word}
 use Rattle.x_texts.specs.Words.{visit_words}
 use Rattle.x_texts.specs.Written.{choices_said, visits_said, AreVisitLines}
-use Rattle.x_texts.proofs.EndLemmas.{visit_line}
-
--- numbers of 32 bits
-abbrev pub AreSmall : List ℕ → Type 0
-AreSmall path = All (λ choice. choice < 2 ^ 32) path
+use Rattle.x_texts.proofs.EndLemmas.{AreSmall}
 
 later : (o : ℕ) (path : List ℕ) → AreSmall (o ∷ path) → AreSmall path
 later o path h = λ k d l. h (suc k) d (omega (arith, l))
@@ -78,24 +74,23 @@ pub no_lines : (text : List ℕ) → text ≡ [] → AreVisitLines text × (visi
 no_lines text e = lines_said text [] e (All-nil AreSmall)
 
 -- and so are those with one visit more
-pub one_more_said : (old line new path : List ℕ) → AreVisitLines old → AreSmall path → line ≡ codes "visit" ++ words_after (map decimal path) → new ≡ old ++ (line ++ 10 ∷ [])
-    → AreVisitLines new × (visits_said new ≡ visits_said old ++ path ∷ [])
+pub one_more_said : (old line new path : List ℕ) → AreVisitLines old → AreSmall path → line ≡ line_text (visit_words path) → new ≡ old ++ line → AreVisitLines new × (visits_said new ≡ visits_said old ++ path ∷ [])
 one_more_said old line new path are small is e =
     lines_said new (visits_said old ++ path ∷ [])
-    (e ∙ (λ j. are.written j ++ visit_line line path is j) ∙ flat_map_more line_text [] (map visit_words (visits_said old)) (visit_words path)
+    (e ∙ (λ j. are.written j ++ is j) ∙ flat_map_more line_text [] (map visit_words (visits_said old)) (visit_words path)
     ∙ ap text_of (sym (map-append visit_words (visits_said old) (path ∷ []))))
     (All-append AreSmall (visits_said old) (path ∷ []) are.small (one_small path small))
   where
     one_small : (path : List ℕ) → AreSmall path → AllSmall (path ∷ [])
     one_small path s = λ k d l. subst (λ (n : ℕ). AreSmall (get_or (path ∷ []) n d)) (let z : 0 ≡ k = omega (arith, l) in z) s
 
--- so they are after a call that adds a visit, or nothing where memory runs out
-pub still_lines : {X E : Type 0} (result : Result X E) (old line new path : List ℕ) → AreVisitLines old → AreSmall path → line ≡ codes "visit" ++ words_after (map decimal path)
-    → OnOk result (new ≡ old ++ (line ++ 10 ∷ [])) → OnErr result (new ≡ old) → AreVisitLines new
-still_lines (Ok x) old line new path are small is added unchanged = (one_more_said old line new path are small is added).0
-still_lines (Err e) old line new path are small is added unchanged = subst AreVisitLines (sym unchanged) are
+-- so they are after a call that adds a line, or nothing where memory runs out
+pub still_lines : {X E : Type 0} (result : Result X E) (old line new path : List ℕ) → AreVisitLines old → AreSmall path → line ≡ line_text (visit_words path)
+    → new ≡ (if is_ok result then old ++ line else old) → AreVisitLines new
+still_lines (Ok x) old line new path are small is e = (one_more_said old line new path are small is e).0
+still_lines (Err e) old line new path are small is same = subst AreVisitLines (sym same) are
 
-pub visit_added : {X E : Type 0} (result : Result X E) (old line new path : List ℕ) → AreVisitLines old → AreSmall path → line ≡ codes "visit" ++ words_after (map decimal path)
-    → OnOk result (new ≡ old ++ (line ++ 10 ∷ [])) → OnOk result (visits_said new ≡ visits_said old ++ path ∷ [])
-visit_added (Ok x) old line new path are small is added = (one_more_said old line new path are small is added).1
-visit_added (Err e) old line new path are small is added = tt
+pub visit_added : {X E : Type 0} (result : Result X E) (old line new path : List ℕ) → AreVisitLines old → AreSmall path → line ≡ line_text (visit_words path)
+    → new ≡ (if is_ok result then old ++ line else old) → OnOk result (visits_said new ≡ visits_said old ++ path ∷ [])
+visit_added (Ok x) old line new path are small is e = (one_more_said old line new path are small is e).1
+visit_added (Err e) old line new path are small is same = tt

@@ -8,7 +8,6 @@ ghost use Rattle.x_texts.specs.Writes.{AddsLines};
 
 use crate::breakpoint::Break;
 use crate::visit_line::VisitLine;
-use crate::visit_text::put_line;
 use crate::word::{label_word, write_cursor, write_point};
 use cover_problem::{Lists, Problem};
 use std::alloc::AllocError;
@@ -57,7 +56,7 @@ pub fn write_visits(text: &mut Vec<u8>, visits: &Lists) -> Result<(), AllocError
     let mut line = VisitLine::new(*text.allocator())?;
     for place in 0..visits.len() {
         line.turn(visits.list(place))?;
-        put_line(text, line.bytes())?;
+        text.extend_from_slice(line.bytes())?;
     }
     Ok(())
 }

@@ -4,22 +4,9 @@ ghost use Rattle.text_lines.specs.Writing.{text_of};
 ghost use Rattle.cover_problem.specs.Answers.{Returns};
 ghost use Rattle.x_texts.specs.Words.{visit_words};
 
-use crate::visit_line::{VisitLine, make_room};
+use crate::visit_line::VisitLine;
 use std::alloc::{AllocError, Global};
 use std::marker::Model;
-
-/// Adds a line and its end; where memory runs out, nothing changes.
-#[inline(always)]
-pub(crate) fn put_line(text: &mut Vec<u8>, line: &[u8]) -> Result<(), AllocError>
-    ensures added { OnOk result (text.new.items ≡ text.old.items ++ (line.now ++ 10 ∷ [])) }
-    ensures unchanged { OnErr result (text.new.items ≡ text.old.items) }
-{
-    // Room for its end too, so that no line stands there without one.
-    make_room(text, line.len() + 1)?;
-    text.extend_from_slice(line)?;
-    text.push_reserved(b'\n');
-    Ok(())
-}
 
 /// Visits, each as the line that it is written as. A list of them would take as much memory again.
 #[derive(Drop)]
@@ -58,7 +45,7 @@ impl VisitText {
         ensures unchanged { OnErr result (self.new ≡ self.old) }
     {
         self.line.turn(path)?;
-        put_line(&mut self.text, self.line.bytes())
+        self.text.extend_from_slice(self.line.bytes())
     }
 
     /// The text: a line for each visit.

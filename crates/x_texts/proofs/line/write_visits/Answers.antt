@@ -1,5 +1,6 @@
-use Rattle.std.proofs.Common.{ℕ, List, ◌<◌, ◌++◌, length, map, decimal, codes, ap, ◌∙◌, arith}
-use Rattle.text_lines.specs.Writing.{words_after}
+use Rattle.std.proofs.Common.{◌<◌, length, ap, ◌∙◌, arith}
+use Rattle.text_lines.specs.Writing.{line_text}
+use Rattle.x_texts.specs.Words.{visit_words}
 use Rattle.x_texts.proofs.EndLemmas.{next_line}
 use Rattle.x_texts.proofs.line.write_visits.Goals as goal
 
@@ -8,4 +9,4 @@ loop-place-preserved c =
     let visits = c.args.visits.now in let place = c.loop-place.place in
     let l : place < length visits = omega (arith, c.loop-place-test.true, c.loop-place.auto.place-end, c.len-place-end.ensures) in
     next_line c.args.text.now.items c.loop-place.text.items c.bytes.result.now _ visits c.list.result.now place l c.list.ensures c.loop-place.invariant
-    (c.bytes.ensures ∙ ap (λ (path : List ℕ). codes "visit" ++ words_after (map decimal path)) c.in_ok-turn.ensures) c.in_ok-put_line.ensures.added
+    (c.bytes.ensures ∙ ap (λ path. line_text (visit_words path)) c.in_ok-turn.ensures.turned) c.in_ok-extend_from_slice.ensures.items

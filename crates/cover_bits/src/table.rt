@@ -246,7 +246,8 @@ impl Table for BitTable {
         count_both(left, column)
     }
 
-    #[inline(always)]
+    // By itself: within the walk of a search its loops lack registers, which costs a tenth of the time.
+    #[inline(never)]
     fn choose(&self) -> u32 {
         // The walk of every table. But `len` would look up for each item which set its list is in, and `next_item` where it stands.
         let left = self.left();
@@ -269,7 +270,8 @@ impl Table for BitTable {
         best
     }
 
-    #[inline(always)]
+    // By itself, as `choose` is.
+    #[inline(never)]
     fn first_option(&self, item: u32) -> Option<u32> {
         let (left, column) = self.list(item);
         after(first_both(left, column, 0))
@@ -280,7 +282,8 @@ impl Table for BitTable {
         after(last_both(left, column, self.options))
     }
 
-    #[inline(always)]
+    // By itself, as `choose` is.
+    #[inline(never)]
     fn next_option(&self, item: u32, option: u32) -> Option<u32> {
         // Where a field is read, what the whole keeps true is known: here, that the option has a number.
         let _primary = &self.primary;

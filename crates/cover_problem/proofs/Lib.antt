@@ -18,6 +18,7 @@ pub mod CoveredLemmas
 pub mod RemainingLemmas
 pub mod ChoiceLemmas
 pub mod PathLemmas
+pub mod CoverEach
 pub mod CoverLemmas
 pub mod ProblemLemmas
 pub mod TableLemmas

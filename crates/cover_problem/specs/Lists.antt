@@ -1,5 +1,5 @@
--- Words on lists of numbers.
-use Rattle.std.specs.Prelude.{ℕ, suc, zero, ◌+◌, ◌-◌, ◌≤◌, ◌==◌, nat_lt, Bool, true, not, ◌&&◌, cond, Option, Some, None, unwrap_or, List, [], ◌∷◌}
+-- Words on lists, most of them of numbers.
+use Rattle.std.specs.Prelude.{ℕ, suc, zero, ◌+◌, ◌-◌, ◌≤◌, ◌≡◌, ◌==◌, nat_lt, Bool, true, not, ◌&&◌, cond, Option, Some, None, unwrap_or, List, [], ◌∷◌, ◌++◌, length}
 use Rattle.std.specs.Prelude.{find}
 use Rattle.std.specs.List.{list_any}
 
@@ -39,3 +39,7 @@ below n (x ∷ xs) = cond (nat_lt x n) (Some (unwrap_or (below n xs) x)) None
 abbrev pub last_of : List ℕ → Option ℕ
 last_of [] = None
 last_of (x ∷ xs) = Some (unwrap_or (last_of xs) x)
+
+-- the new list is the old one without its last, so many
+abbrev pub LosesLast : {A : Type 0} → List A → List A → ℕ → Type 0
+LosesLast {A} old new count = (last : List A) × (old ≡ new ++ last) × (length last ≡ count)

@@ -1,12 +1,25 @@
 //! What a search asks of a table.
-ghost use Rattle.std.specs.Prelude.{◌≡◌, ◌<◌, ◌≤◌, List, ◌∷◌, ◌++◌, [], ℕ, length, true, false, OnOk, IfOk};
-ghost use Rattle.cover_problem.specs.Lists.{has, above};
+ghost use Rattle.std.specs.Prelude.{◌≡◌, ◌==◌, ◌<◌, ◌≤◌, List, ◌∷◌, ◌++◌, [], ℕ, length, true, false, OnOk, IfOk};
+ghost use Rattle.std.specs.List.{position_or_len};
+ghost use Rattle.cover_problem.specs.Lists.{has, above, LosesLast};
 ghost use Rattle.cover_problem.specs.Problem.{ProblemValue, IsProblem};
 ghost use Rattle.cover_problem.specs.Covering.{active, choice, list_of, IsInList, first_left, last_left, next_left, prev_left};
+ghost use Rattle.cover_problem.specs.Path.{others};
+ghost use Rattle.cover_problem.specs.Coverable.{CanCover};
 ghost use Rattle.cover_problem.specs.Table.{IsCoveredList};
 
 use crate::problem::Problem;
 use std::alloc::{AllocError, Global};
+
+/// The place of an item in an option.
+#[inline(always)]
+fn place_of(option: &[u32], item: u32) -> usize
+    requires { has option.now item ≡ true }
+    ensures { result ≡ position_or_len (λ x. x == item) option.now }
+{
+    // An option has few items, so its places are not kept anywhere.
+    option.iter().take_while(|x| **x != item).count()
+}
 
 /// A table stands for a problem and the list of the items that are covered, each once.
 ///
@@ -110,4 +123,58 @@ pub trait Table: Drop {
         requires { (front : List ℕ) × (covered_list self.old ≡ front ++ item ∷ []) }
         ensures same_problem { problem_value self.new ≡ problem_value self.old }
         ensures covered { covered_list self.old ≡ covered_list self.new ++ item ∷ [] };
+
+    /// The item that was covered last.
+    #[inline(always)]
+    fn last_covered(&self) -> u32
+        requires { 0 < length (covered_list self.now) }
+        ensures { (front : List ℕ) × (covered_list self.now ≡ front ++ result ∷ []) }
+    {
+        let covered = self.covered();
+        covered[covered.len() - 1]
+    }
+
+    /// Covers the items in order.
+    #[inline(always)]
+    fn cover_each(&mut self, items: &[u32])
+        requires { CanCover (problem_value self.old) (covered_list self.old) items.now }
+        ensures same_problem { problem_value self.new ≡ problem_value self.old }
+        ensures covered { covered_list self.new ≡ covered_list self.old ++ items.now }
+    {
+        for item in items {
+            self.cover(*item);
+        }
+    }
+
+    // A step takes a whole option, and takes it back: a table may have a shorter way to do so than item by item.
+    /// Covers the option's other items, from the one after `item` to its end and on from its first.
+    #[inline(always)]
+    fn cover_others(&mut self, option: &[u32], item: u32)
+        requires member { has option.now item ≡ true }
+        requires can { CanCover (problem_value self.old) (covered_list self.old) (others item option.now) }
+        ensures same_problem { problem_value self.new ≡ problem_value self.old }
+        ensures covered { covered_list self.new ≡ covered_list self.old ++ others item option.now }
+    {
+        // The order is round the option, as in Algorithm X: it is seen in the list of covered items.
+        let place = place_of(option, item);
+        let (_, after) = option.split_at(place + 1);
+        self.cover_each(after);
+        // The item itself is in neither part: it was covered when it was chosen.
+        let (before, _) = option.split_at(place);
+        self.cover_each(before);
+    }
+
+    /// Uncovers the items that were covered last, as many as told, in reverse.
+    #[inline(always)]
+    fn uncover_last(&mut self, count: usize)
+        requires { (front back : List ℕ) × (covered_list self.old ≡ front ++ back) × (length back ≡ count) }
+        ensures same_problem { problem_value self.new ≡ problem_value self.old }
+        ensures covered { LosesLast (covered_list self.old) (covered_list self.new) count }
+    {
+        // A table takes back only what it covered last, so its own list tells which item comes.
+        for _ in 0..count {
+            let item = self.last_covered();
+            self.uncover(item);
+        }
+    }
 }

@@ -4,7 +4,7 @@ ghost use Rattle.std.specs.Prelude.{IfOk, IfErr, OnOk, OnErr, IsErr, IsTrue};
 ghost use Rattle.cover_problem.specs.Answers.{Returns};
 ghost use Rattle.cover_problem.specs.Problem.{IsProblem};
 ghost use Rattle.x_steps.specs.Answers.{ReturnsRows, ReturnsRow, RefusedUnchanged};
-ghost use Rattle.x_steps.specs.Lists.{LosesLast};
+ghost use Rattle.cover_problem.specs.Lists.{LosesLast};
 ghost use Rattle.x_steps.specs.StateView.{state_value};
 ghost use Rattle.x_steps.specs.Steps.{event_of, is_visit};
 ghost use Rattle.x_steps.specs.Run.{steps_between};

@@ -1,4 +1,3 @@
-pub mod CoverEach
 pub mod Neighbours
 pub mod RankLemmas
 pub mod RunLemmas

@@ -1,6 +1,5 @@
 pub mod StateValue
 pub mod StateView
-pub mod Lists
 pub mod Steps
 pub mod Before
 pub mod Run

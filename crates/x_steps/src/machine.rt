@@ -14,7 +14,7 @@ mod moving;
 mod read;
 mod walk;
 
-use crate::covering::{cover_others, has_active, last_covered, uncover_last};
+use crate::covering::has_active;
 use crate::event::Event;
 use crate::fault::StepFault;
 use crate::state::{Cursor, Label, State};
@@ -137,7 +137,7 @@ impl<'p, T: Table> Machine<'p, T> {
         } = self;
         let count = table.covered().len();
         // The table's own list is all that has to be taken back, at whichever step the search stands.
-        uncover_last(&mut table, count);
+        table.uncover_last(count);
         table
     }
 
@@ -231,8 +231,8 @@ impl<'p, T: Table> Machine<'p, T> {
         ensures { Goes self.old self.new result }
     {
         // At X5 the chosen item is the one covered last.
-        let item = last_covered(&self.table);
-        cover_others(&mut self.table, self.problem.option(option), item);
+        let item = self.table.last_covered();
+        self.table.cover_others(self.problem.option(option), item);
         // There is room for it, so this takes no memory.
         push_within(&mut self.state.path, option);
         self.state.go(Label::X2, Cursor::None);
@@ -259,8 +259,8 @@ impl<'p, T: Table> Machine<'p, T> {
     {
         // All items of the option but the chosen one, which stays covered up to X7.
         let others = self.problem.option(option).len() - 1;
-        uncover_last(&mut self.table, others);
-        let item = last_covered(&self.table);
+        self.table.uncover_last(others);
+        let item = self.table.last_covered();
         let cursor = cursor_at(self.table.next_option(item, option));
         self.state.go(Label::X5, cursor);
         Event::Moved
@@ -272,7 +272,7 @@ impl<'p, T: Table> Machine<'p, T> {
         requires { IsAt self.old Label.X7 }
         ensures { Goes self.old self.new result }
     {
-        let item = last_covered(&self.table);
+        let item = self.table.last_covered();
         self.table.uncover(item);
         self.state.go(Label::X8, Cursor::None);
         Event::Moved

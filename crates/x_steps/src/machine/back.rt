@@ -7,7 +7,7 @@ ghost use Rattle.x_steps.specs.Before.{came_from};
 ghost use Rattle.x_steps.specs.Steps.{IsBefore};
 ghost use Rattle.x_steps.specs.Machine.{IsAt, GoesBack, state_before};
 
-use crate::covering::{cover_others, has_active, last_covered, uncover_last};
+use crate::covering::has_active;
 use crate::fault::StepFault;
 use crate::machine::Machine;
 use crate::state::{Cursor, Label};
@@ -50,7 +50,7 @@ impl<'p, T: Table> Machine<'p, T> {
             Some(option) => {
                 // At X5 the chosen item is covered, and no other item of the option.
                 let others = self.problem.option(option).len() - 1;
-                uncover_last(&mut self.table, others);
+                self.table.uncover_last(others);
                 self.state.go(Label::X5, Cursor::At(option));
             }
         }
@@ -98,7 +98,7 @@ impl<'p, T: Table> Machine<'p, T> {
         requires cursor { self.now.state.cursor ≡ Cursor.At option }
         ensures { result ≡ below option (remaining_after self.now.problem self.now.state.path) }
     {
-        let item = last_covered(&self.table);
+        let item = self.table.last_covered();
         self.table.prev_option(item, option)
     }
 
@@ -107,7 +107,7 @@ impl<'p, T: Table> Machine<'p, T> {
         requires { IsAt self.now Label.X5 }
         ensures { result ≡ last_of (remaining_after self.now.problem self.now.state.path) }
     {
-        let item = last_covered(&self.table);
+        let item = self.table.last_covered();
         self.table.last_option(item)
     }
 
@@ -117,7 +117,7 @@ impl<'p, T: Table> Machine<'p, T> {
         requires came { state_before self.old ≡ came_from self.old.state.path before }
         ensures { GoesBack self.old self.new }
     {
-        let item = last_covered(&self.table);
+        let item = self.table.last_covered();
         match before {
             None => {
                 // Nothing was tried before, so this X5 came from X4, which covered the item.
@@ -126,7 +126,7 @@ impl<'p, T: Table> Machine<'p, T> {
             }
             Some(option) => {
                 // The option before was taken and left again: at X6 its other items are still covered.
-                cover_others(&mut self.table, self.problem.option(option), item);
+                self.table.cover_others(self.problem.option(option), item);
                 self.state.go(Label::X6, Cursor::At(option));
             }
         }

@@ -4,7 +4,7 @@ ghost use Rattle.x_steps.specs.Answers.{ReturnsRows, ReturnsRow};
 ghost use Rattle.x_steps.specs.Steps.{covered_in, is_visit};
 ghost use Rattle.x_steps.specs.Machine.{remaining_in, second_in, chosen_item, chosen_in};
 
-use crate::covering::{has_active, last_covered};
+use crate::covering::has_active;
 use crate::listing::{active_items, options_of, secondary_items};
 use crate::machine::Machine;
 use crate::state::{Cursor, Label};
@@ -63,8 +63,8 @@ impl<'p, T: Table> Machine<'p, T> {
         match (self.state.label, self.state.cursor) {
             // Here alone the item is still to be covered, so it is chosen as X4 will.
             (Label::X4, _) => Some(self.table.choose()),
-            (Label::X5, _) => Some(last_covered(&self.table)),
-            (Label::X7, _) => Some(last_covered(&self.table)),
+            (Label::X5, _) => Some(self.table.last_covered()),
+            (Label::X7, _) => Some(self.table.last_covered()),
             (Label::X6, Cursor::At(option)) => {
                 let covered = self.table.covered();
                 Some(covered[covered.len() - self.problem.option(option).len()])

@@ -1,6 +1,6 @@
 use Rattle.std.proofs.Common.{◌∙◌}
-use Rattle.x_steps.proofs.CoverEach.{uncovers_more}
-use Rattle.x_steps.proofs.covering.uncover_last.Goals as goal
+use Rattle.cover_problem.proofs.CoverEach.{uncovers_more}
+use Rattle.cover_problem.proofs.table.Table.uncover_last.Goals as goal
 
 pub loop-preserved : goal.loop-preserved
 loop-preserved g c = record {

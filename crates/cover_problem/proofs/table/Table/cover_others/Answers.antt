@@ -1,8 +1,8 @@
 use Rattle.std.proofs.Common.{arith, ◌==◌}
 use Rattle.std.specs.List.{before_first, after_first}
 use Rattle.cover_problem.proofs.PathLemmas.{can_parts}
-use Rattle.x_steps.proofs.CoverEach.{place_within}
-use Rattle.x_steps.proofs.covering.cover_others.Goals as goal
+use Rattle.cover_problem.proofs.CoverEach.{place_within}
+use Rattle.cover_problem.proofs.table.Table.cover_others.Goals as goal
 
 pub split_at-requires : goal.split_at-requires
 split_at-requires g c = let within = place_within c.args.item c.args.option.now c.requires.member in rw c.place_of-place.ensures (omega arith)

@@ -119,7 +119,8 @@ pub(crate) fn put_words(bytes: &mut Vec<u8>, list: &[u32])
     }
 }
 
-/// Adds the bytes of a long list; where memory runs out, nothing changes. What it has in common with the one before is not made again.
+/// Adds the bytes of a long list; where memory runs out, nothing changes. The whole steps with which the list before it began alike keep
+/// their bytes: those are copied, and only the rest is made.
 fn put_long(bytes: &mut Vec<u8>, known: &mut Known, list: &[u32]) -> Result<(), AllocError>
     ensures added { OnOk result (bytes.new.items ≡ bytes.old.items ++ flat_map bytes_of list.now) }
     ensures unchanged { OnErr result (bytes.new.items ≡ bytes.old.items) }

@@ -93,7 +93,7 @@ impl<'p, T: Table> Machine<'p, T> {
             steps: 0,
             event: Event::Moved,
         };
-        // Behind a visit, at which the walk before this one ended. Here and not in a round: so no round asks for this label.
+        // The walk before this one ended at a visit, so X8 comes next. It is taken before the rounds, and no round asks for this label.
         if most >= 2 && matches!(self.state.label, Label::X8) {
             walk = self.leave_and_retry();
         }

@@ -7,6 +7,7 @@ ghost use Rattle.byte_streams.specs.Input.{StopsReading, StopsAfter, LacksMemory
 
 use crate::stream::Source;
 use std::alloc::{AllocError, Global};
+use thiserror::Error;
 
 /// The most bytes that are read.
 // 2^27. An input without an end would take all memory before anything is known of it.
@@ -17,13 +18,16 @@ const MOST_INPUT: usize = 134_217_728;
 const CHUNK: usize = 65_536;
 
 /// Why the input was not read.
-#[derive(Clone, Copy, Debug, PartialEq, Eq)]
+#[derive(Clone, Copy, Debug, PartialEq, Eq, Error)]
 pub enum InputFault {
     /// A read failed.
+    #[error("the input could not be read")]
     Failed,
     /// The input goes on past the limit.
+    #[error("the input is too long")]
     PastLimit,
     /// There is no memory for the input.
+    #[error("out of memory")]
     OutOfMemory,
 }
 

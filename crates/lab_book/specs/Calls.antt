@@ -7,7 +7,7 @@
 -- was not before. proofs/BookExamples.antt computes it.
 use Rattle.x_steps.specs.StateValue.{StateValue}
 use Rattle.lab_book.specs.Tile.{TileValue}
-use Rattle.std.specs.Prelude.{ℕ, ◌≡◌, ◌⊎◌, Option, Some, None, Result, Err, ◌≤◌, length, take, List, Bool, is_ok, IfErr, option_map}
+use Rattle.std.specs.Prelude.{ℕ, ◌≡◌, ◌⊎◌, Option, Some, None, Result, Err, ◌≤◌, length, take, List, Bool, is_ok, IfErr, OnOk, option_map}
 use Rattle.x_steps.specs.StateView.{state_value}
 use Rattle.x_steps.specs.declared.state.State.{State}
 use Rattle.cover_problem.specs.declared.fault.Refused.{Refused}
@@ -146,6 +146,10 @@ pub record ReturnsTo (t : TileValue) (s : StateValue) (count : ℕ) : Type 0 whe
 abbrev pub ScribeNotes : {S : Type 0} → (S → ℕ → Entry → S → Type 0) → S → S → BookValue → ℕ → Call → Type 0
 ScribeNotes notes old new b w c = notes old (length b.history) (next_entry b w c) new
 
+-- where a call is made, a scribe notes it
+abbrev pub NotesMade : {S X F : Type 0} → Result X F → (S → ℕ → Entry → S → Type 0) → S → S → BookValue → ℕ → Call → Type 0
+NotesMade result notes old new b w c = OnOk result (ScribeNotes notes old new b w c)
+
 -- where a call was refused, it noted that, and nothing where memory ran out
 abbrev pub ScribeNotesFault : {S : Type 0}
     → (S → ℕ → Entry → S → Type 0) → S → S → BookValue → ℕ → Call → BookFault → Type 0
@@ -155,6 +159,11 @@ ScribeNotesFault notes old new b w c f =
 -- the same for a call by this lease
 abbrev pub ScribeNotesBy : {S : Type 0} → (S → ℕ → Entry → S → Type 0) → S → S → BookValue → (Grant → Call) → Grant → Type 0
 ScribeNotesBy notes old new b c g = ScribeNotes notes old new b g.worker (c g)
+
+-- where such a call is made, a scribe notes it
+abbrev pub NotesMadeBy : {S X F : Type 0}
+    → Result X F → (S → ℕ → Entry → S → Type 0) → S → S → BookValue → (Grant → Call) → Grant → Type 0
+NotesMadeBy result notes old new b c g = OnOk result (ScribeNotesBy notes old new b c g)
 
 -- and where it was refused
 abbrev pub ScribeNotesByFault : {S : Type 0}

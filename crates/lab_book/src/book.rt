@@ -157,7 +157,8 @@ impl<'p> Book<'p> {
     ) -> Result<Book<'p>, Refused<StartFault, (Branch<'p>, State)>>
         ensures made { Returns result (new_book problem.now branch.entry (state_value state)) }
         ensures can { OnOk result (CanStart problem.now branch.entry (state_value state)) }
-        ensures refused { RefusedIf result (StartRefused problem.now branch.entry (state_value state)) }
+        ensures refused { RefusedIf result
+            (StartRefused problem.now branch.entry (state_value state)) }
         ensures branch_back { IfErr result (λ r. r.given.0 ≡ branch.entry) }
         ensures state_back { IfErr result (λ r. r.given.1 ≡ state) }
     {
@@ -306,7 +307,8 @@ impl<'p> Book<'p> {
     ) -> Refused<BookFault, G>
         requires { OutOfMemoryOr fault (outcome self.old w call ≡ refused self.old.tiles fault) }
         ensures refused { Refuses self.old self.new w call result.fault }
-        ensures noted { ScribeNotesFault S.notes scribe.old scribe.new self.old w call result.fault }
+        ensures noted { ScribeNotesFault S.notes scribe.old scribe.new self.old w
+            call result.fault }
         ensures given_back { result.given ≡ given }
     {
         let fault = self.refuse(scribe, w, call, fault);

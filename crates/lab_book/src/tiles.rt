@@ -178,7 +178,8 @@ impl<'p> Tiles<'p> {
 
     /// How many X2 states the posted stretches have at each level.
     pub fn levels(&self) -> &[u128]
-        ensures { (level : ℕ) → slice_index result.now level ≡ measured_of (of_level level) self.now }
+        ensures { (level : ℕ) →
+            slice_index result.now level ≡ measured_of (of_level level) self.now }
     {
         self.totals.levels()
     }
@@ -328,7 +329,8 @@ impl<'p> Tiles<'p> {
     pub fn add(&mut self, i: usize, stretch: Stretch<'p>) -> Result<(), Stretch<'p>>
         requires within { i < length self.old }
         requires room { posted_count self.old < 2 ^ 64 }
-        ensures added { OnOk result (self.new ≡ slice_set self.old i (posted_tile (tile_at self.old i) stretch.entry)) }
+        ensures added { OnOk result
+            (self.new ≡ slice_set self.old i (posted_tile (tile_at self.old i) stretch.entry)) }
         ensures unchanged { OnErr result (self.new ≡ self.old) }
         ensures given_back { IfErr result (λ s. s ≡ stretch.entry) }
     {

@@ -70,7 +70,8 @@ fn take_counts(totals: &mut [u128], counts: Reader<'_>)
     requires levels { length (path_of counts) ≤ length totals.old }
     requires some { (k : ℕ) → slice_index (path_of counts) k ≤ slice_index totals.old k }
     ensures levels { length totals.new ≡ length totals.old }
-    ensures sums { (k : ℕ) → slice_index totals.new k + slice_index (path_of counts.entry) k ≡ slice_index totals.old k }
+    ensures sums { (k : ℕ) →
+        slice_index totals.new k + slice_index (path_of counts.entry) k ≡ slice_index totals.old k }
 {
     let mut counts = counts;
     let mut left = counts.number();
@@ -88,9 +89,11 @@ fn take_counts(totals: &mut [u128], counts: Reader<'_>)
 /// Takes counts from the totals from a level on.
 fn take_counts_from(totals: &mut [u128], level: u64, counts: Reader<'_>)
     requires levels { level + length (path_of counts) ≤ length totals.old }
-    requires some { (k : ℕ) → slice_index (replicate level 0 ++ path_of counts) k ≤ slice_index totals.old k }
+    requires some { (k : ℕ) →
+        slice_index (replicate level 0 ++ path_of counts) k ≤ slice_index totals.old k }
     ensures levels { length totals.new ≡ length totals.old }
-    ensures sums { (k : ℕ) → slice_index totals.new k + slice_index (replicate level 0 ++ path_of counts.entry) k ≡
+    ensures sums { (k : ℕ) →
+        slice_index totals.new k + slice_index (replicate level 0 ++ path_of counts.entry) k ≡
         slice_index totals.old k }
 {
     let (_, deeper) = totals.split_at_mut(level as usize);
@@ -147,7 +150,8 @@ impl Totals {
         requires visited { visited ≡ length (visits_of_stretch stretch.now) }
         requires long { length (levels_of_stretch stretch.now) ≤ length self.old.levels }
         requires room { (m : Measure) → total self.old m + 2 ^ 64 ≤ 2 ^ 128 }
-        ensures added { (m : Measure) → total self.new m ≡ total self.old m + measured m stretch.now }
+        ensures added { (m : Measure) →
+            total self.new m ≡ total self.old m + measured m stretch.now }
         ensures levels { length self.new.levels ≡ length self.old.levels }
         ensures small { (m : Measure) → measured m stretch.now < 2 ^ 64 }
     {
@@ -162,7 +166,8 @@ impl Totals {
     fn take(&mut self, stretch: &KeptStretch<'_, '_>)
         requires long { length (levels_of_stretch stretch.now) ≤ length self.old.levels }
         requires some { (m : Measure) → measured m stretch.now ≤ total self.old m }
-        ensures taken { (m : Measure) → total self.new m + measured m stretch.now ≡ total self.old m }
+        ensures taken { (m : Measure) →
+            total self.new m + measured m stretch.now ≡ total self.old m }
         ensures levels { length self.new.levels ≡ length self.old.levels }
     {
         self.visited -= stretch.visited() as u128;
@@ -174,9 +179,12 @@ impl Totals {
     /// Takes away what the stretches have that stand behind the first ones.
     pub fn take_behind(&mut self, stretches: &KeptStretches<'_>, count: usize)
         requires within { count ≤ length stretches.now }
-        requires long { All (λ (x : StretchValue). length (levels_of_stretch x) ≤ length self.old.levels) stretches.now }
+        requires long { All
+            (λ (x : StretchValue). length (levels_of_stretch x) ≤ length self.old.levels)
+            stretches.now }
         requires some { (m : Measure) → measured_in m stretches.now ≤ total self.old m }
-        ensures taken { (m : Measure) → total self.new m + measured_in m (drop count stretches.now) ≡ total self.old m }
+        ensures taken { (m : Measure) →
+            total self.new m + measured_in m (drop count stretches.now) ≡ total self.old m }
         ensures levels { length self.new.levels ≡ length self.old.levels }
     {
         let mut place = stretches.len();

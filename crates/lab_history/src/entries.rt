@@ -112,9 +112,10 @@ impl<'a> Entries<'a> {
         row: &mut Row,
     ) -> Result<bool, AllocError>
         requires { place < length self.now }
-        ensures told { IfOk result (λ same. IsTrue same → slice_get self.now place ≡ Some (entry_of numbers.now)) }
-        ensures all_told { IsEntryCode numbers.now →
-            IfOk result (λ same. slice_get self.now place ≡ Some (entry_of numbers.now) → IsTrue same) }
+        ensures told { IfOk result
+            (λ same. IsTrue same → slice_get self.now place ≡ Some (entry_of numbers.now)) }
+        ensures all_told { IsEntryCode numbers.now → IfOk result
+            (λ same. slice_get self.now place ≡ Some (entry_of numbers.now) → IsTrue same) }
     {
         let count = self.rows.len();
         if place >= count {

@@ -3,31 +3,43 @@ ghost use Rattle.std.specs.Prelude.{◌≡◌, ◌↔◌, IfOk, IsTrue};
 ghost use Rattle.lab_history.specs.Faults.{number_of, name_of};
 
 use std::alloc::AllocError;
+use thiserror::Error;
 use x_steps::Mark;
 
 /// Why a call of a book was refused.
-#[derive(Debug, Drop)]
+#[derive(Debug, Drop, Error)]
 pub enum BookFault {
     /// No tile has that id.
+    #[error("no tile has that id")]
     UnknownBranch,
     /// The tile doesn't stand as the call asks.
+    #[error("the tile does not stand so")]
     NotWaiting,
     /// The lease isn't the tile's current one, or the stretch doesn't begin at the tile's mark, which comes with it.
+    #[error("the lease is not the tile's current one, or the stretch does not begin at its mark")]
     StaleLease(Mark),
     /// The stretch or the cut is another problem's.
+    #[error("that is of another problem")]
     ForeignProblem,
     /// The cut isn't after the tile's mark.
+    #[error("the cut is not after the tile's mark")]
     NotAfterMark,
     /// The cut isn't before the tile's end, or the stretch ends after it.
+    #[error("that is beyond the tile's end")]
     BeyondEnd,
     /// The state is none of the tile's marks.
+    #[error("the state is none of the tile's marks")]
     NotAMark,
     /// The tile's mark isn't its end.
+    #[error("the tile's mark is not its end")]
     NotAtEnd,
     /// The tile has no posted stretch.
+    #[error("the tile has no posted stretch")]
     NothingToRetract,
     /// The seats that come back to a desk aren't all of its own with the records of what was called at them.
+    #[error("the seats are not those of the desk")]
     SeatMismatch,
+    #[error("out of memory")]
     OutOfMemory,
 }
 

@@ -101,7 +101,8 @@ impl History {
     ) -> Result<(), AllocError>
         requires { count ≤ 2 }
         ensures kept { OnOk result (self.new ≡ record self.old { kept = self.old.kept + count }) }
-        ensures in_hand { OnOk result (S.keeps scribe.old (length self.old.entries) entry.now scribe.new) }
+        ensures in_hand { OnOk result
+            (S.keeps scribe.old (length self.old.entries) entry.now scribe.new) }
         ensures unchanged { OnErr result (self.new ≡ self.old) }
         ensures not_in_hand { OnErr result (scribe.new ≡ scribe.old) }
     {
@@ -124,7 +125,8 @@ impl History {
     /// Adds an entry where room was kept for it, and packs it.
     pub fn add(&mut self, entry: Entry)
         requires { 0 < self.old.kept }
-        ensures { self.new ≡ record { entries = self.old.entries ++ entry ∷ []; kept = self.old.kept - 1 } }
+        ensures { self.new ≡
+            record { entries = self.old.entries ++ entry ∷ []; kept = self.old.kept - 1 } }
     {
         // Into the room that was kept: packing may fail, and an entry must not.
         self.last.push_reserved(entry);

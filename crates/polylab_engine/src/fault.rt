@@ -6,13 +6,16 @@ ghost use Rattle.polylab_engine.specs.Outcome.{pool_refusal};
 use debug_script::RepliesFault;
 use lab_pool::PoolFault;
 use std::alloc::AllocError;
+use thiserror::Error;
 
 /// Why a job could not be done.
-#[derive(Clone, Copy, Debug, PartialEq, Eq)]
+#[derive(Clone, Copy, Debug, PartialEq, Eq, Error)]
 pub enum JobFault {
     /// There was not enough memory.
+    #[error("out of memory")]
     OutOfMemory,
     /// The workers did not finish.
+    #[error("{0}")]
     Pool(PoolFault),
 }
 

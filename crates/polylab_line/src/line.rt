@@ -22,13 +22,16 @@ pub struct Request {
 }
 
 /// Why the words name no job. The texts are `clap`'s, but for `--first` with several workers, and for words that are not text.
-#[derive(Debug, Drop)]
+#[derive(Debug, Drop, thiserror::Error)]
 pub enum LineFault {
     /// Help or the version was asked for; this is the text.
+    #[error("{0}")]
     Help(String),
     /// The words were refused; this is why.
+    #[error("{0}")]
     Usage(String),
     /// There is no memory to read the words.
+    #[error("out of memory")]
     OutOfMemory,
 }
 

@@ -96,7 +96,8 @@ impl<'p> Branch<'p> {
 
     /// Whether its first state comes before that of a branch whose low cut has these choices, or X1 where it has no low cut.
     pub fn begins_before(&self, choices: Option<&[u32]>) -> bool
-        ensures { TrueIsBefore result (first_of self.now.lo) (first_from (option_copied choices.entry)) }
+        ensures { TrueIsBefore result (first_of self.now.lo)
+            (first_from (option_copied choices.entry)) }
     {
         match choices {
             Some(choices) => is_before(&self.first(), &Position::at_cut(choices)),
@@ -118,7 +119,8 @@ impl<'p> Branch<'p> {
     /// What is true of every branch, for a proof that needs it: a search of the problem whose cuts these are has its ends.
     #[inline(always)]
     pub(crate) fn is_sound(&self)
-        ensures first_fits { (p : ProblemValue) → IsOf p self.now.lo → Fits p (first_of self.now.lo) }
+        ensures first_fits { (p : ProblemValue) → IsOf p self.now.lo →
+            Fits p (first_of self.now.lo) }
         ensures end_fits { (p : ProblemValue) → IsOf p self.now.hi → Fits p (end_of self.now.hi) }
     {
         let _first = self.first();
@@ -147,7 +149,8 @@ impl<'p> Branch<'p> {
         ensures end_fits { IsTrue result → Fits problem.now (end_of self.now.hi) }
         ensures branch { IsTrue result → IsBranch problem.now self.now }
         ensures within { IsTrue result → IsWithin problem.now self.now (state_value state.now) }
-        ensures outside { IsBranch problem.now self.now → IsWithin problem.now self.now (state_value state.now) → IsTrue result }
+        ensures outside { IsBranch problem.now self.now →
+            IsWithin problem.now self.now (state_value state.now) → IsTrue result }
     {
         let position = Position::of(state);
         if !self.is_of(problem) {

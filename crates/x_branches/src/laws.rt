@@ -25,10 +25,13 @@ pub fn cuts_in_order()
 pub fn untried_is_later()
     ensures cut { (p : ProblemValue) (s end : StateValue) → Fits p s → Fits p end → (level k : ℕ) →
         has (untried p end level s) k ≡ true → IsCut p (with_choice s level k) }
-    ensures later { (p : ProblemValue) (s end : StateValue) → Fits p s → Fits p end → (level k : ℕ) →
+    ensures later { (p : ProblemValue) (s end : StateValue) → Fits p s → Fits p end →
+        (level k : ℕ) →
         has (untried p end level s) k ≡ true → ComesBefore p s (cut_state (with_choice s level k)) }
-    ensures before_end { (p : ProblemValue) (s end : StateValue) → Fits p s → Fits p end → (level k : ℕ) →
-        has (untried p end level s) k ≡ true → ComesBefore p (cut_state (with_choice s level k)) end }
+    ensures before_end { (p : ProblemValue) (s end : StateValue) → Fits p s → Fits p end →
+        (level k : ℕ) →
+        has (untried p end level s) k ≡ true →
+        ComesBefore p (cut_state (with_choice s level k)) end }
 {}
 
 /// At a level where a state has a choice, each cut that comes later and before the end is untried; and the cut of each option
@@ -37,7 +40,9 @@ pub fn untried_is_all()
     ensures all { (p : ProblemValue) (s end : StateValue) → Fits p s → Fits p end → (level k : ℕ) →
         level < length (choices s) → IsUntried p s end (with_choice s level k) →
         has (untried p end level s) k ≡ true }
-    ensures reached { (p : ProblemValue) (s : StateValue) → Fits p s → (level o k : ℕ) (more : List ℕ) →
-        drop level (choices s) ≡ o ∷ more → has (remaining_above p (take level (choices s)) o) k ≡ true →
+    ensures reached { (p : ProblemValue) (s : StateValue) → Fits p s →
+        (level o k : ℕ) (more : List ℕ) →
+        drop level (choices s) ≡ o ∷ more →
+        has (remaining_above p (take level (choices s)) o) k ≡ true →
         ComesBefore p s (cut_state (with_choice s level k)) }
 {}

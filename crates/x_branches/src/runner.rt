@@ -140,9 +140,11 @@ impl<'p, T: Table> Runner<'p, T> {
     ) -> Result<Runner<'p, T>, Refused<StartFault, (T, Branch<'p>)>>
         requires same_problem { T.problem_value table ≡ problem.now }
         requires covered { T.covered_list table ≡ [] }
-        ensures runner { Returns result (runner_at problem.now branch.entry (state_value state.now)) }
+        ensures runner { Returns result
+            (runner_at problem.now branch.entry (state_value state.now)) }
         ensures can { OnOk result (CanStart problem.now branch.entry (state_value state.now)) }
-        ensures refused { IfErr result (λ r. StartRefused problem.now branch.entry (state_value state.now) r.fault) }
+        ensures refused { IfErr result
+            (λ r. StartRefused problem.now branch.entry (state_value state.now) r.fault) }
         ensures same_problem_back { IfErr result (λ r. T.problem_value r.given.0 ≡ problem.now) }
         ensures covered_back { IfErr result (λ r. T.covered_list r.given.0 ≡ []) }
         ensures branch_back { IfErr result (λ r. r.given.1 ≡ branch.entry) }

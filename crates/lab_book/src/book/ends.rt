@@ -6,7 +6,7 @@ ghost use Rattle.lab_book.specs.Tile.{is_leased, Stands};
 ghost use Rattle.lab_book.specs.Tiling.{tile_at};
 ghost use Rattle.lab_book.specs.Book.{outcome, settled, end_fault, with_status, given_up};
 ghost use Rattle.lab_book.specs.Calls.{Made, Refuses, Ends, is_current, Finds, RefusedIf, RefusesEnd, done_entry};
-ghost use Rattle.lab_book.specs.Calls.{ScribeNotes, ScribeNotesFault, ScribeNotesBy, ScribeNotesByFault, ReadyToEnd};
+ghost use Rattle.lab_book.specs.Calls.{NotesMade, ScribeNotesFault, NotesMadeBy, ScribeNotesByFault, ReadyToEnd};
 
 use crate::book::{Book, out_of_memory};
 use crate::lease::Lease;
@@ -32,7 +32,7 @@ impl<'p> Book<'p> {
         requires outcome { outcome self.old w call ≡ settled self.old (with_status status) i }
         ensures made { OnOk result (Made self.old self.new w call replies.Done) }
         ensures unchanged { OnErr result (self.new ≡ self.old) }
-        ensures noted { OnOk result (ScribeNotes S.notes scribe.old scribe.new self.old w call) }
+        ensures noted { NotesMade result S.notes scribe.old scribe.new self.old w call }
         ensures not_noted { OnErr result (scribe.new ≡ scribe.old) }
         ensures ready { S.ready scribe.old (done_entry w call) → IsOk result }
     {
@@ -92,7 +92,8 @@ impl<'p> Book<'p> {
         ensures made { OnOk result (Ends self.old self.new calls.Close lease) }
         ensures refused { RefusesEnd result self.old self.new calls.Close lease }
         ensures given_back { IfErr result (λ r. r.given ≡ lease) }
-        ensures noted { OnOk result (ScribeNotesBy S.notes scribe.old scribe.new self.old calls.Close lease) }
+        ensures noted { NotesMadeBy result S.notes scribe.old scribe.new self.old
+            calls.Close lease }
         ensures refusal_noted { RefusedIf result (
             ScribeNotesByFault S.notes scribe.old scribe.new self.old calls.Close lease) }
     {
@@ -119,10 +120,11 @@ impl<'p> Book<'p> {
     ) -> Result<(), Refused<BookFault, Lease>>
         requires { outcome self.old lease.worker call ≡ given_up self.old lease }
         ensures made { OnOk result (Made self.old self.new lease.worker call replies.Done) }
-        ensures current { is_current self.old.tiles lease ≡ true → S.ready scribe.old (done_entry lease.worker call) → IsOk result }
+        ensures current { is_current self.old.tiles lease ≡ true →
+            S.ready scribe.old (done_entry lease.worker call) → IsOk result }
         ensures refused { RefusedIf result (Refuses self.old self.new lease.worker call) }
         ensures given_back { IfErr result (λ r. r.given ≡ lease) }
-        ensures noted { OnOk result (ScribeNotes S.notes scribe.old scribe.new self.old lease.worker call) }
+        ensures noted { NotesMade result S.notes scribe.old scribe.new self.old lease.worker call }
         ensures refusal_noted { RefusedIf result (
             ScribeNotesFault S.notes scribe.old scribe.new self.old lease.worker call) }
     {
@@ -159,10 +161,12 @@ impl<'p> Book<'p> {
         lease: Lease,
     ) -> Result<(), Refused<BookFault, Lease>>
         ensures made { OnOk result (Ends self.old self.new calls.Abandon lease) }
-        ensures current { is_current self.old.tiles lease ≡ true → ReadyToEnd S.ready scribe.old calls.Abandon lease → IsOk result }
+        ensures current { is_current self.old.tiles lease ≡ true →
+            ReadyToEnd S.ready scribe.old calls.Abandon lease → IsOk result }
         ensures refused { RefusesEnd result self.old self.new calls.Abandon lease }
         ensures given_back { IfErr result (λ r. r.given ≡ lease) }
-        ensures noted { OnOk result (ScribeNotesBy S.notes scribe.old scribe.new self.old calls.Abandon lease) }
+        ensures noted { NotesMadeBy result S.notes scribe.old scribe.new self.old
+            calls.Abandon lease }
         ensures refusal_noted { RefusedIf result (
             ScribeNotesByFault S.notes scribe.old scribe.new self.old calls.Abandon lease) }
     {
@@ -188,10 +192,11 @@ impl<'p> Book<'p> {
         lease: Lease,
     ) -> Result<(), Refused<BookFault, Lease>>
         ensures made { OnOk result (Ends self.old self.new calls.Park lease) }
-        ensures current { is_current self.old.tiles lease ≡ true → ReadyToEnd S.ready scribe.old calls.Park lease → IsOk result }
+        ensures current { is_current self.old.tiles lease ≡ true →
+            ReadyToEnd S.ready scribe.old calls.Park lease → IsOk result }
         ensures refused { RefusesEnd result self.old self.new calls.Park lease }
         ensures given_back { IfErr result (λ r. r.given ≡ lease) }
-        ensures noted { OnOk result (ScribeNotesBy S.notes scribe.old scribe.new self.old calls.Park lease) }
+        ensures noted { NotesMadeBy result S.notes scribe.old scribe.new self.old calls.Park lease }
         ensures refusal_noted { RefusedIf result (
             ScribeNotesByFault S.notes scribe.old scribe.new self.old calls.Park lease) }
     {

@@ -1,10 +1,10 @@
 //! Leases are given.
-ghost use Rattle.std.specs.Prelude.{◌≡◌, ◌≤◌, ◌<◌, false, length, IfOk, IfErr, OnErr, OnOk, IfSome};
+ghost use Rattle.std.specs.Prelude.{◌≡◌, ◌≤◌, ◌<◌, false, length, IfOk, IfErr, OnErr, IfSome};
 ghost use Rattle.x_steps.specs.StateView.{state_value};
 ghost use Rattle.lab_book.specs.Tile.{is_leased, mark_of};
 ghost use Rattle.lab_book.specs.Tiling.{tile_at};
 ghost use Rattle.lab_book.specs.Book.{outcome, lent, cut_path};
-ghost use Rattle.lab_book.specs.Calls.{Made, Refuses, any_reply, CanBeSearched, Leases, ScribeNotes, ScribeNotesFault};
+ghost use Rattle.lab_book.specs.Calls.{Made, Refuses, any_reply, CanBeSearched, Leases, NotesMade, ScribeNotesFault};
 
 use crate::book::Book;
 use crate::lease::{Lease, Leased};
@@ -79,7 +79,7 @@ impl<'p> Book<'p> {
         ensures can_start { IfOk result (CanBeSearched self.old.problem) }
         ensures worker { IfOk result (λ r. r.lease.worker ≡ w) }
         ensures refused { IfErr result (λ f. (f ≡ BookFault.OutOfMemory) × (self.new ≡ self.old)) }
-        ensures noted { OnOk result (ScribeNotes S.notes scribe.old scribe.new self.old w call) }
+        ensures noted { NotesMade result S.notes scribe.old scribe.new self.old w call }
         ensures not_noted { OnErr result (scribe.new ≡ scribe.old) }
     {
         // All memory is taken before the tile changes: a lease is given whole, or nothing has happened.
@@ -142,7 +142,7 @@ impl<'p> Book<'p> {
         ensures can_start { IfOk result (CanBeSearched self.old.problem) }
         ensures worker { IfOk result (λ r. r.lease.worker ≡ w) }
         ensures refused { IfErr result (λ f. Refuses self.old self.new w (Call.Lease id) f) }
-        ensures noted { OnOk result (ScribeNotes S.notes scribe.old scribe.new self.old w (Call.Lease id)) }
+        ensures noted { NotesMade result S.notes scribe.old scribe.new self.old w (Call.Lease id) }
         ensures refusal_noted { IfErr result (λ f.
             ScribeNotesFault S.notes scribe.old scribe.new self.old w (Call.Lease id) f) }
     {
@@ -175,7 +175,7 @@ impl<'p> Book<'p> {
         ensures can_start { IfOk result (λ r. IfSome r (CanBeSearched self.old.problem)) }
         ensures worker { IfOk result (λ r. IfSome r (λ l. l.lease.worker ≡ w)) }
         ensures unchanged { OnErr result (self.new ≡ self.old) }
-        ensures noted { OnOk result (ScribeNotes S.notes scribe.old scribe.new self.old w Call.LeaseAny) }
+        ensures noted { NotesMade result S.notes scribe.old scribe.new self.old w Call.LeaseAny }
         ensures not_noted { OnErr result (scribe.new ≡ scribe.old) }
     {
         // That none waits is an answer and gets its entry; it is no refusal.
@@ -221,7 +221,8 @@ impl<'p> Book<'p> {
         ensures can_start { IfOk result (CanBeSearched self.old.problem) }
         ensures worker { IfOk result (λ r. r.lease.worker ≡ w) }
         ensures refused { IfErr result (λ f. Refuses self.old self.new w (Call.TakeHeld id) f) }
-        ensures noted { OnOk result (ScribeNotes S.notes scribe.old scribe.new self.old w (Call.TakeHeld id)) }
+        ensures noted { NotesMade result S.notes scribe.old scribe.new self.old w
+            (Call.TakeHeld id) }
         ensures refusal_noted { IfErr result (λ f.
             ScribeNotesFault S.notes scribe.old scribe.new self.old w (Call.TakeHeld id) f) }
     {

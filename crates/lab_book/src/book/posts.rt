@@ -1,11 +1,11 @@
 //! Stretches are posted.
-ghost use Rattle.std.specs.Prelude.{◌≡◌, ◌<◌, true, None, length, IfOk, IfErr, OnErr, OnOk};
+ghost use Rattle.std.specs.Prelude.{◌≡◌, ◌<◌, true, None, length, IfOk, IfErr, OnErr};
 ghost use Rattle.cover_problem.specs.Problem.{is_same};
 ghost use Rattle.lab_history.specs.declared.entry.Call.TheVariants as calls;
 ghost use Rattle.lab_book.specs.Tile.{is_leased};
 ghost use Rattle.lab_book.specs.Tiling.{tile_at};
 ghost use Rattle.lab_book.specs.Book.{outcome, posted, post_fault};
-ghost use Rattle.lab_book.specs.Calls.{Made, Posts, PostRefused, Doubted, posted_reply, post_of, Finds, RefusedIf, ScribeNotes, ScribeNotesFault};
+ghost use Rattle.lab_book.specs.Calls.{Made, Posts, PostRefused, Doubted, posted_reply, post_of, Finds, RefusedIf, NotesMade, ScribeNotesFault};
 
 use crate::book::{Book, out_of_memory};
 use crate::lease::{Lease, Posted};
@@ -94,7 +94,7 @@ impl<'p> Book<'p> {
         ensures made { IfOk result (λ r. Made self.old self.new w call (posted_reply r)) }
         ensures unchanged { OnErr result (self.new ≡ self.old) }
         ensures given_back { IfErr result (λ s. s ≡ stretch.entry) }
-        ensures noted { OnOk result (ScribeNotes S.notes scribe.old scribe.new self.old w call) }
+        ensures noted { NotesMade result S.notes scribe.old scribe.new self.old w call }
         ensures not_noted { OnErr result (scribe.new ≡ scribe.old) }
     {
         // For the proof: its states are of the problem's run, so the tile stays one.
@@ -166,9 +166,10 @@ impl<'p> Book<'p> {
         ensures made { IfOk result (λ r. Posts self.old self.new lease.now stretch.entry r) }
         ensures refused { RefusedIf result (PostRefused self.old self.new lease.now stretch.entry) }
         ensures given_back { IfErr result (λ r. r.given ≡ stretch.entry) }
-        ensures noted { OnOk result (ScribeNotes S.notes scribe.old scribe.new self.old lease.now.worker
-            (post_of self.old.problem lease.now stretch.entry)) }
-        ensures refusal_noted { RefusedIf result (ScribeNotesFault S.notes scribe.old scribe.new self.old
+        ensures noted { NotesMade result S.notes scribe.old scribe.new self.old lease.now.worker
+            (post_of self.old.problem lease.now stretch.entry) }
+        ensures refusal_noted { RefusedIf result
+            (ScribeNotesFault S.notes scribe.old scribe.new self.old
             lease.now.worker (post_of self.old.problem lease.now stretch.entry)) }
     {
         let lease = lease.grant();

@@ -6,7 +6,7 @@ ghost use Rattle.lab_book.specs.Tile.{is_leased, is_free};
 ghost use Rattle.lab_book.specs.Tiling.{tile_at};
 ghost use Rattle.lab_book.specs.Book.{retract_fault, back_place};
 ghost use Rattle.lab_book.specs.Calls.{Made, Refuses, RefusesBy, ReturnsTo, Finds, Retracts, OutOfMemoryOr, back_to};
-ghost use Rattle.lab_book.specs.Calls.{ScribeNotes, ScribeNotesFault, ScribeNotesBy, ScribeNotesByFault};
+ghost use Rattle.lab_book.specs.Calls.{NotesMade, ScribeNotesFault, NotesMadeBy, ScribeNotesByFault};
 
 use crate::book::Book;
 use crate::lease::Lease;
@@ -46,7 +46,8 @@ impl<'p> Book<'p> {
         requires { w ≤ 31 }
         ensures made { OnOk result (Made self.old self.new w (Call.RequestStop id) replies.Done) }
         ensures refused { IfErr result (λ f. Refuses self.old self.new w (Call.RequestStop id) f) }
-        ensures noted { OnOk result (ScribeNotes S.notes scribe.old scribe.new self.old w (Call.RequestStop id)) }
+        ensures noted { NotesMade result S.notes scribe.old scribe.new self.old w
+            (Call.RequestStop id) }
         ensures refusal_noted { IfErr result (λ f.
             ScribeNotesFault S.notes scribe.old scribe.new self.old w (Call.RequestStop id) f) }
     {
@@ -107,7 +108,8 @@ impl<'p> Book<'p> {
         ensures made { IfOk result (Retracts self.old self.new lease.now) }
         ensures problem { IfOk result (λ x. x.problem ≡ self.old.problem) }
         ensures refused { IfErr result (RefusesBy self.old self.new lease.now Call.Retract) }
-        ensures noted { OnOk result (ScribeNotesBy S.notes scribe.old scribe.new self.old Call.Retract lease.now) }
+        ensures noted { NotesMadeBy result S.notes scribe.old scribe.new self.old
+            Call.Retract lease.now }
         ensures refusal_noted { IfErr result (
             ScribeNotesByFault S.notes scribe.old scribe.new self.old Call.Retract lease.now) }
     {
@@ -148,8 +150,10 @@ impl<'p> Book<'p> {
         ensures place { IfOk result (λ x. back_place self.now.tiles id state.now ≡ Ok x.0) }
         ensures within { IfOk result (λ x. x.0 < length self.now.tiles) }
         ensures free { IfOk result (λ x. is_free (tile_at self.now.tiles x.0).status ≡ true) }
-        ensures kept { IfOk result (λ x. ReturnsTo (tile_at self.now.tiles x.0) (state_value state.now) x.1) }
-        ensures refused { IfErr result (λ f. OutOfMemoryOr f (back_place self.now.tiles id state.now ≡ Err f)) }
+        ensures kept { IfOk result
+            (λ x. ReturnsTo (tile_at self.now.tiles x.0) (state_value state.now) x.1) }
+        ensures refused { IfErr result
+            (λ f. OutOfMemoryOr f (back_place self.now.tiles id state.now ≡ Err f)) }
     {
         let Some(i) = self.tiles.place(id) else {
             return Err(BookFault::UnknownBranch);
@@ -187,7 +191,8 @@ impl<'p> Book<'p> {
         requires { w ≤ 31 }
         ensures made { OnOk result (Made self.old self.new w (back_to id state.now) replies.Done) }
         ensures refused { IfErr result (Refuses self.old self.new w (back_to id state.now)) }
-        ensures noted { OnOk result (ScribeNotes S.notes scribe.old scribe.new self.old w (back_to id state.now)) }
+        ensures noted { NotesMade result S.notes scribe.old scribe.new self.old w
+            (back_to id state.now) }
         ensures refusal_noted { IfErr result (
             ScribeNotesFault S.notes scribe.old scribe.new self.old w (back_to id state.now)) }
     {

@@ -1,5 +1,5 @@
 //! Tiles are split.
-ghost use Rattle.std.specs.Prelude.{◌≡◌, ◌<◌, true, None, length, IfOk, IfErr, OnErr, OnOk};
+ghost use Rattle.std.specs.Prelude.{◌≡◌, ◌<◌, true, None, length, IfOk, IfErr, OnErr};
 ghost use Rattle.cover_problem.specs.Problem.{is_same};
 ghost use Rattle.x_branches.specs.Cut.{cut_state};
 ghost use Rattle.x_steps.specs.StateView.{state_value};
@@ -9,7 +9,7 @@ ghost use Rattle.lab_book.specs.Tile.{is_leased};
 ghost use Rattle.lab_book.specs.Tiling.{tile_at};
 ghost use Rattle.lab_book.specs.Book.{outcome, split, ended_tile, split_fault};
 ghost use Rattle.lab_book.specs.Calls.{Made, Splits, SplitRefused, Doubted, Finds, RefusedIf, split_of};
-ghost use Rattle.lab_book.specs.Calls.{ScribeNotes, ScribeNotesFault};
+ghost use Rattle.lab_book.specs.Calls.{NotesMade, ScribeNotesFault};
 
 use crate::book::{Book, out_of_memory};
 use crate::lease::Lease;
@@ -73,7 +73,8 @@ impl<'p> Book<'p> {
         ensures place { Finds result self.now.tiles lease (split_fault self.now cut.now same) }
         ensures within { IfOk result (λ i. i < length self.now.tiles) }
         ensures leased { IfOk result (λ i. is_leased (tile_at self.now.tiles i).status ≡ true) }
-        ensures fine { IfOk result (λ i. split_fault self.now cut.now same (tile_at self.now.tiles i) ≡ None) }
+        ensures fine { IfOk result
+            (λ i. split_fault self.now cut.now same (tile_at self.now.tiles i) ≡ None) }
     {
         let i = match self.tiles.leased_place(lease) {
             Ok(i) => i,
@@ -101,10 +102,12 @@ impl<'p> Book<'p> {
         requires tail { tail ≡ ended_tile cut }
         requires outcome { outcome self.old entry.worker entry.call ≡ split self.old cut.path i }
         requires reply { entry.reply ≡ replies.Split (length self.old.tiles) }
-        ensures made { IfOk result (λ id. Made self.old self.new entry.worker entry.call (replies.Split id)) }
+        ensures made { IfOk result
+            (λ id. Made self.old self.new entry.worker entry.call (replies.Split id)) }
         ensures unchanged { OnErr result (self.new ≡ self.old) }
         ensures given_back { IfErr result (λ c. c ≡ cut.entry) }
-        ensures noted { OnOk result (ScribeNotes S.notes scribe.old scribe.new self.old entry.worker entry.call) }
+        ensures noted { NotesMade result S.notes scribe.old scribe.new self.old
+            entry.worker entry.call }
         ensures not_noted { OnErr result (scribe.new ≡ scribe.old) }
     {
         cut.is_sound();
@@ -166,9 +169,10 @@ impl<'p> Book<'p> {
         ensures made { IfOk result (λ id. Splits self.old self.new lease.now cut.entry id) }
         ensures refused { RefusedIf result (SplitRefused self.old self.new lease.now cut.entry) }
         ensures given_back { IfErr result (λ r. r.given ≡ cut.entry) }
-        ensures noted { OnOk result (ScribeNotes S.notes scribe.old scribe.new self.old lease.now.worker
-            (split_of self.old.problem lease.now cut.entry)) }
-        ensures refusal_noted { RefusedIf result (ScribeNotesFault S.notes scribe.old scribe.new self.old
+        ensures noted { NotesMade result S.notes scribe.old scribe.new self.old lease.now.worker
+            (split_of self.old.problem lease.now cut.entry) }
+        ensures refusal_noted { RefusedIf result
+            (ScribeNotesFault S.notes scribe.old scribe.new self.old
             lease.now.worker (split_of self.old.problem lease.now cut.entry)) }
     {
         let lease = lease.grant();

@@ -94,7 +94,8 @@ fn read_fault(alloc: Global, reader: &mut Reader<'_>) -> Result<BookFault, Alloc
 /// Reads a post.
 fn read_post(alloc: Global, reader: &mut Reader<'_>) -> Result<Call, AllocError>
     ensures call { IfOk result (λ call. call ≡ post_read reader.old) }
-    ensures rest { OnOk result (reader.new ≡ after_rest (state_rest (grant_rest (later reader.old)))) }
+    ensures rest { OnOk result
+        (reader.new ≡ after_rest (state_rest (grant_rest (later reader.old)))) }
 {
     let same = reader.number() != 0;
     let lease = read_grant(reader);

@@ -117,7 +117,8 @@ fn put_post(
     to: &Mark,
     same: bool,
 ) -> Result<(), AllocError>
-    ensures code { OnOk result (row.new ≡ row.old ++ call_code (Call.Post lease from.now to.now same)) }
+    ensures code { OnOk result
+        (row.new ≡ row.old ++ call_code (Call.Post lease from.now to.now same)) }
     ensures reads { OnOk result (ReadsCall (Call.Post lease from.now to.now same)) }
 {
     row.put(3)?;
@@ -186,7 +187,8 @@ fn put_leased(
     mark: &Mark,
     waiting: u64,
 ) -> Result<(), AllocError>
-    ensures code { OnOk result (row.new ≡ row.old ++ reply_code (Reply.Leased lease lo.now hi.now mark.now waiting)) }
+    ensures code { OnOk result
+        (row.new ≡ row.old ++ reply_code (Reply.Leased lease lo.now hi.now mark.now waiting)) }
     ensures reads { OnOk result (ReadsReply (Reply.Leased lease lo.now hi.now mark.now waiting)) }
 {
     row.put(0)?;

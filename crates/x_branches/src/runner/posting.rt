@@ -118,7 +118,8 @@ impl<'p, T: Table> Runner<'p, T> {
     /// goes on in the next one, which needs no walk down to its first state. Refused where the branch isn't one of the problem's run
     /// or the position is outside it, and when out of memory; nothing has then changed, and the branch comes back.
     pub fn begin(&mut self, branch: Branch<'p>) -> Result<(), Refused<RunnerFault, Branch<'p>>>
-        ensures runner { OnOk result (self.new ≡ runner_at self.old.problem branch.entry self.old.position) }
+        ensures runner { OnOk result
+            (self.new ≡ runner_at self.old.problem branch.entry self.old.position) }
         ensures can { OnOk result (CanStart self.old.problem branch.entry self.old.position) }
         ensures refused { IfErr result (λ r. BeginRefused self.old branch.entry r.fault) }
         ensures given_back { IfErr result (λ r. r.given ≡ branch.entry) }

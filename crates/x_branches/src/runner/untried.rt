@@ -97,7 +97,8 @@ fn options_above<T: Table>(
 
 /// Whether the cut at an option after these choices comes before the end of a branch.
 fn is_cut_inside(branch: &Branch<'_>, front: &[u32], option: u32) -> bool
-    ensures { (p : ProblemValue) → IsOf p branch.now.hi → Fits p (at Label.X5 front.now (Cursor.At option)) →
+    ensures { (p : ProblemValue) → IsOf p branch.now.hi →
+        Fits p (at Label.X5 front.now (Cursor.At option)) →
         result ≡ is_before_end p (end_of branch.now.hi) front.now option }
 {
     // Made of what is lent, so that comparing it takes no memory.
@@ -118,7 +119,8 @@ fn cut_inside(
 ) -> Result<Vec<u32>, AllocError>
     ensures { (p : ProblemValue) → IsOf p branch.now.hi →
         All (λ k. Fits p (at Label.X5 front.now (Cursor.At k))) options.now →
-        IfOk result (λ kept. kept.items ≡ filter (is_before_end p (end_of branch.now.hi) front.now) options.now) }
+        IfOk result (λ kept. kept.items ≡
+        filter (is_before_end p (end_of branch.now.hi) front.now) options.now) }
 {
     let mut kept = Vec::new(alloc);
     for option in options {
@@ -168,7 +170,8 @@ impl<'p, T: Table> Runner<'p, T> {
         requires level { level < length (choices self.now.position) }
         requires some { 0 < option }
         requires within { option ≤ length self.now.problem.options }
-        ensures { result ≡ has (remaining_after self.now.problem (earlier_choices self.now level)) option }
+        ensures { result ≡
+            has (remaining_after self.now.problem (earlier_choices self.now level)) option }
     {
         let (before, item) = self.covered_at(level);
         is_remaining(self.machine.problem().option(option), item, before)

@@ -19,6 +19,8 @@ pub mod CoverLemmas
 pub mod PackingLemmas
 pub mod SortLemmas
 pub mod EqualLemmas
+pub mod LaidLemmas
+pub mod OrderedLemmas
 pub mod SwapLemmas
 pub mod RangeLemmas
 pub mod PlainLemmas

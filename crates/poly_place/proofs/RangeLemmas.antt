@@ -13,7 +13,7 @@ use Rattle.poly_place.proofs.DistinctLemmas.{in_from_name, name_from_in}
 use Rattle.poly_place.proofs.PairLemmas.{all_of, among_groups, equal_named, equal_single}
 use Rattle.poly_place.proofs.PlacedLemmas.{has_shapes, layable, in_layable}
 use Rattle.poly_place.proofs.LeavingsLemmas.{split_by, neighbours_more, uses, used_from, from_used, leaving_is, first_left}
-use Rattle.poly_place.proofs.SwapLemmas.{neighbours_left}
+use Rattle.poly_place.proofs.LaidLemmas.{neighbours_left}
 
 -- ---- neighbours that are left
 

@@ -203,7 +203,8 @@ fn add_leavings(
     requires needed { needed.now ≡ needed_names numbers.now }
     requires primary { primary ≡ length (needed_things numbers.now) }
     requires lefts { lists_of lefts.now ≡ left_out numbers.now }
-    ensures { AddsLists result options.old options.new (map (left_items numbers.now) (left_out numbers.now)) }
+    ensures { AddsLists result options.old options.new
+        (map (left_items numbers.now) (left_out numbers.now)) }
 {
     for left in lefts {
         options.push(numbers.items_of(alloc, needed, primary, left.as_slice())?)?;

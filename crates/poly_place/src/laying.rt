@@ -65,7 +65,8 @@ fn may_be_chosen(
     requires table { length filled.now ≡ grid_cells }
     requires some { 0 < length cells.now }
     requires inside { IsIn (first_cell cells.now) numbers.now.region }
-    ensures { result ≡ ((is_needed || list_any (has_bit filled.now) cells.now) && has_room_for numbers.now following cells.now) }
+    ensures { result ≡ ((is_needed || list_any (has_bit filled.now) cells.now) &&
+        has_room_for numbers.now following cells.now) }
 {
     is_useful(is_needed, filled, cells) && numbers.has_room_for(following, cells)
 }

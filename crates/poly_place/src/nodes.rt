@@ -78,7 +78,8 @@ fn push_first(
     leaf: u32,
 ) -> Result<(), AllocError>
     requires { before + leaf < 2 ^ 32 }
-    ensures { Adds result items.old items.new (numbers_if there (items_from_right before levels leaf)) }
+    ensures { Adds result items.old items.new
+        (numbers_if there (items_from_right before levels leaf)) }
 {
     if there {
         push_from_right(items, before, levels, leaf)?;
@@ -95,7 +96,8 @@ fn push_second(
     leaf: u32,
 ) -> Result<(), AllocError>
     requires { before + leaf < 2 ^ 32 }
-    ensures { Adds result items.old items.new (numbers_if there (items_from_left before levels leaf)) }
+    ensures { Adds result items.old items.new
+        (numbers_if there (items_from_left before levels leaf)) }
 {
     if there {
         push_from_left(items, before, levels, leaf)?;

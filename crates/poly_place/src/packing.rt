@@ -78,7 +78,8 @@ pub fn packing_of<'p>(
     ensures packs { IfOk result (λ q. IsPacking compiled.now (is_among q.placements)) }
     ensures stands { IfOk result (λ q. OptionsStandFor compiled.now path.now q.placements) }
     ensures by_piece { IfOk result (λ q. ComeByPiece compiled.now q.placements) }
-    ensures order { IfOk result (λ q. compiled.now.any_pieces ≡ [] → AreInPieceOrder compiled.now q.placements) }
+    ensures order { IfOk result
+        (λ q. compiled.now.any_pieces ≡ [] → AreInPieceOrder compiled.now q.placements) }
 {
     let numbers = in_order(alloc, path)?;
     let placements = chosen(alloc, compiled.choices(), numbers.as_slice())?;
@@ -101,7 +102,8 @@ fn in_order(alloc: Global, path: &[u32]) -> Result<Vec<u32>, AllocError>
 /// The choices with these numbers, from 1 on. A number past the last one is none of a choice.
 fn chosen(alloc: Global, choices: &[Choice], numbers: &[u32]) -> Result<Vec<Choice>, AllocError>
     requires { ArePositive numbers.now }
-    ensures { ReturnsItems result (map (choice_numbered choices.now) (numbering choices.now numbers.now)) }
+    ensures { ReturnsItems result
+        (map (choice_numbered choices.now) (numbering choices.now numbers.now)) }
 {
     let mut chosen = Vec::with_capacity(alloc, numbers.len())?;
     for number in numbers {

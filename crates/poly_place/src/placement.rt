@@ -30,7 +30,8 @@ pub fn placements_by(
     group: Group,
 ) -> Result<Vec<Shape>, AllocError>
     ensures value { ReturnsItems result (placements (turns_by group) piece.now region.now) }
-    ensures exactly { IfOk result (λ sets. ArePlacements (turns_by group) piece.now region.now sets.items) }
+    ensures exactly { IfOk result
+        (λ sets. ArePlacements (turns_by group) piece.now region.now sets.items) }
 {
     piece.is_sound();
     let cells = region.cells();

@@ -47,8 +47,10 @@ fn has_room_beside(options: usize, entries: usize, lefts: &[Vec<PieceName>]) -> 
 /// The entries of a table with options added that leave out these copies; where that goes past the limit, some number past it.
 fn entries_beside(entries: usize, lefts: &[Vec<PieceName>]) -> usize
     requires { entries ≤ MOST_ENTRIES }
-    ensures exact { result ≤ MOST_ENTRIES → result ≡ entries + leaving_entries (lists_of lefts.now) }
-    ensures past { entries + leaving_entries (lists_of lefts.now) ≤ MOST_ENTRIES → result ≤ MOST_ENTRIES }
+    ensures exact { result ≤ MOST_ENTRIES →
+        result ≡ entries + leaving_entries (lists_of lefts.now) }
+    ensures past { entries + leaving_entries (lists_of lefts.now) ≤ MOST_ENTRIES →
+        result ≤ MOST_ENTRIES }
 {
     let mut entries = entries;
     for left in lefts {
@@ -103,8 +105,10 @@ fn entries_with(
     requires puzzle { IsPuzzle numbers.now }
     requires members { (c : ChoiceValue) → IsIn c list.now → IsIn c (every_choice numbers.now) }
     requires low { entries ≤ MOST_ENTRIES }
-    ensures exact { IfOk result (λ n. n ≤ MOST_ENTRIES → n ≡ entries + entries_of numbers.now list.now) }
-    ensures past { IfOk result (λ n. entries + entries_of numbers.now list.now ≤ MOST_ENTRIES → n ≤ MOST_ENTRIES) }
+    ensures exact { IfOk result
+        (λ n. n ≤ MOST_ENTRIES → n ≡ entries + entries_of numbers.now list.now) }
+    ensures past { IfOk result
+        (λ n. entries + entries_of numbers.now list.now ≤ MOST_ENTRIES → n ≤ MOST_ENTRIES) }
 {
     let mut entries = entries;
     for choice in list {

@@ -22,7 +22,8 @@ pub fn shown_symbol(packing: &Packing<'_>, choice: &Choice) -> u8
 
 /// The symbols that begin with the name, if there are such.
 fn word_of(symbols: &[Vec<PieceName>], name: PieceName) -> Option<&[PieceName]>
-    ensures value { option_map (λ word. word.now) result ≡ find (begins_with name) (lists_of symbols.now) }
+    ensures value { option_map (λ word. word.now) result ≡
+        find (begins_with name) (lists_of symbols.now) }
     ensures some { IfSome result (λ word. 0 < length word.now) }
 {
     for k in 0..symbols.len() {

@@ -1,218 +1,30 @@
 -- A line that is taken is a line within the limits, and what it adds to what is said.
-use Rattle.std.proofs.Common.{◌≡◌, ◌<◌, ◌≤◌, ◌==◌, ◌++◌, ℕ, List, [], ◌∷◌, drop, map, length, Bool, true, false, cond, not, ◌&&◌, nat_lt, nat_le, ◌||◌, Option, Some, None, Ok, Err, refl, sym, ap, ◌∙◌, subst, arith, codes, decimal, lt-ltb, le-leb, ltb-true, leb-true}
+use Rattle.std.proofs.Common.{◌≡◌, ◌≤◌, ◌==◌, ◌++◌, ℕ, List, [], ◌∷◌, drop, map, length, Bool, true, false, cond, not, ◌&&◌, nat_lt, nat_le, ◌||◌, Option, Some, None, Ok, Err, refl, sym, ap, ◌∙◌, subst, arith, codes, lt-ltb, le-leb}
 use Rattle.std.specs.List.{list_all}
-use Rattle.std.proofs.lemmas.Bool.{and_parts, and_from, both_ways, or_right, or_parts, ne_eqb, not-true, not-false, not_from_false}
+use Rattle.std.proofs.lemmas.Bool.{and_parts, and_from, or_right, or_parts, not-false, not_from_false}
 use Rattle.std.proofs.lemmas.Bool.Decides.{nat_tests}
 use Rattle.text_lines.specs.Lines.{is_empty}
 use Rattle.text_lines.specs.Each.{each, ◌>>=◌}
 use Rattle.std.proofs.lemmas.Option.{same_Some, none-some}
 use Rattle.poly_cells.specs.Coordinates.{Coordinates}
 use Rattle.poly_texts.specs.Limits.{most_piece_cells, most_region_cells, most_size}
-use Rattle.poly_texts.specs.declared.fault.Fault.TheVariants.{BadLine, RepeatedPiece, SecondBox, TooLarge}
+use Rattle.poly_texts.specs.declared.fault.Fault.TheVariants.{BadLine, SecondBox, TooLarge}
 use Rattle.poly_texts.specs.declared.key.Key.{Key}
 use Rattle.poly_texts.specs.declared.key.Key.TheVariants as keys
 use Rattle.poly_texts.specs.declared.need.Need.{Need}
 use Rattle.poly_texts.specs.declared.need.Need.TheVariants as needs
 use Rattle.poly_texts.specs.Cells.{with_cells}
 use Rattle.poly_texts.specs.Needs.{is_must}
-use Rattle.poly_texts.specs.Words.{word_names, is_name, are_so_many, has_plus, before_plus, after_plus, are_sizes, are_small, is_size, size_from}
-use Rattle.poly_texts.specs.Reading.{DraftValue, kept_shape, shape_of, within, some_repeated, taken_in, with_line, are_fresh, new_names, add_cell, add_piece_cell, three_words, with_spare, range_line, copies_line, with_box, sized_box, piece_line, box_line, cells_line, maybe_cells_line, cut_line, key_from, mirror_keyed, mirror_line, any_keyed, any_line, maybe_keyed, maybe_line, keyed_line, words_line}
+use Rattle.poly_texts.specs.Words.{has_plus, before_plus, after_plus, are_sizes, are_small, is_size, size_from}
+use Rattle.poly_texts.specs.Reading.{DraftValue, kept_shape, shape_of, within, some_repeated, taken_in, with_line, new_names, add_cell, three_words, with_spare, range_line, copies_line, with_box, sized_box, piece_line, box_line, cells_line, maybe_cells_line, cut_line, key_from, mirror_keyed, mirror_line, any_keyed, any_line, maybe_keyed, maybe_line, keyed_line, words_line}
 use Rattle.poly_cells.specs.CellTests.{is_in_grid}
 use Rattle.poly_cells.specs.CellWords.{cell_word}
-use Rattle.poly_texts.specs.Grammar.{Line, piece, range, box, cells, cut, need_words, mirror_words, piece_word, are_names, are_ranged, line_words, are_in_grid, are_apart, is_side, is_line}
+use Rattle.poly_texts.specs.Grammar.{Line, piece, range, box, cells, cut, need_words, mirror_words, piece_word, are_names, line_words, are_in_grid, are_apart, is_line}
 use Rattle.text_lines.proofs.ResultLemmas.{ok_is, no_fault, bind_ok, unrefused, granted, key_told}
-use Rattle.poly_texts.proofs.ReadingLemmas.{piece_read, names_found}
-use Rattle.poly_texts.proofs.PlusLemmas.{plus_none, plus_again, plus_is, drop_first}
-use Rattle.poly_texts.proofs.SpellingLemmas.{words_same, cells_again, cells_are, piece_again, piece_cells_are, side_again, side_is}
-
--- what is said with one more line
-abbrev pub plus : DraftValue → Line → DraftValue
-plus s (piece need several mirrored names cs) = with_line s need mirrored names (kept_shape cs)
-plus s (range mirrored names spare cs) = with_spare (with_line s needs.Must mirrored (names ++ spare) (kept_shape cs)) spare
-plus s (box a b c) = with_box s a b c
-plus s (cells optional cs) = record s { named = with_cells s.named cs; maybe_cells = cond optional (with_cells s.maybe_cells cs) s.maybe_cells }
-plus s (cut cs) = record s { cut = with_cells s.cut cs }
-
-abbrev pub is_small : DraftValue → Bool
-is_small s = nat_le (length s.named) most_region_cells
-
--- whether a line may come after what is said
-abbrev pub is_fit : DraftValue → Line → Bool
-is_fit s (piece need several mirrored names cs) = not (some_repeated (taken_in s) names)
-is_fit s (range mirrored names spare cs) = not (some_repeated (taken_in s) (names ++ spare))
-is_fit s (box a b c) = not s.boxed && is_small (with_box s a b c)
-is_fit s (cells optional cs) = is_small (plus s (cells optional cs))
-is_fit s (cut cs) = true
-
-some_words : (cs : List Coordinates) → 0 < length cs → is_empty (map cell_word cs) ≡ false
-some_words [] h = absurd (omega arith)
-some_words (c ∷ cs) h = refl
-
-some_cells : (cs : List Coordinates) → is_empty (map cell_word cs) ≡ false → nat_lt 0 (length cs) ≡ true
-some_cells [] h = absurd (cc)
-some_cells (c ∷ cs) h = lt-ltb 0 (length (c ∷ cs)) (omega arith)
-
-within_is : (s : DraftValue) (t : DraftValue) → within s ≡ Ok t → (is_small s ≡ true) × (s ≡ t)
-within_is s t h = let p = granted (is_small s) TooLarge (Ok s) t h in (p.0, ok_is s t p.1)
-
--- *the parts of a line*
-
-fresh_is : (taken : ℕ → Bool) (found : Option (List ℕ)) (names : List ℕ) → are_fresh taken found ≡ Ok names → (found ≡ Some names) × (some_repeated taken names ≡ false)
-fresh_is taken None names h = absurd (no_fault BadLine names h)
-fresh_is taken (Some ns) names h =
-    let p = unrefused (some_repeated taken ns) RepeatedPiece (Ok ns) names h in
-    let e = ok_is ns names p.1 in
-    (ap (λ m. Some m) e, subst (λ m. some_repeated taken m ≡ false) e p.0)
-
-name_parts : (taken : ℕ → Bool) (need : Need) (several : Bool) (word names : List ℕ) → new_names taken need several word ≡ Ok names → (word_names need several word ≡ Some names) × (some_repeated taken names ≡ false)
-unfolding new_names
-name_parts taken need several word names h = fresh_is taken (word_names need several word) names h
-
-shape_parts : (words : List (List ℕ)) (shape : List Coordinates) → shape_of words ≡ Ok shape → (cs : List Coordinates) × (each add_piece_cell [] words ≡ Ok cs) × (kept_shape cs ≡ shape)
-unfolding shape_of
-shape_parts words shape h =
-    let b = bind_ok (each add_piece_cell [] words) (λ cs. Ok (kept_shape cs)) shape h in
-    (b.0, b.1, ok_is (kept_shape b.0) shape b.2)
-
-piece_parts : (s : DraftValue) (need : Need) (several mirrored : Bool) (word : List ℕ) (words : List (List ℕ)) (t : DraftValue) → piece_line s need several mirrored (word ∷ words) ≡ Ok t →
-    (is_empty words ≡ false) × ((names : List ℕ) × (new_names (taken_in s) need several word ≡ Ok names) × ((shape : List Coordinates) × (shape_of words ≡ Ok shape) × (with_line s need mirrored names shape ≡ t)))
-unfolding piece_line
-piece_parts s need several mirrored word words t h =
-    let u = unrefused (is_empty words) BadLine (new_names (taken_in s) need several word >>= λ names. shape_of words >>= λ shape. Ok (with_line s need mirrored names shape)) t h in
-    let b = bind_ok (new_names (taken_in s) need several word) (λ names. shape_of words >>= λ shape. Ok (with_line s need mirrored names shape)) t u.1 in
-    let d = bind_ok (shape_of words) (λ shape. Ok (with_line s need mirrored b.0 shape)) t b.2 in
-    (u.0, (b.0, b.1, (d.0, d.1, ok_is (with_line s need mirrored b.0 d.0) t d.2)))
-
--- *a line that fits is taken*
-
-shape_again : (cs : List Coordinates) → list_all is_in_grid cs ≡ true → are_apart cs ≡ true → length cs ≤ most_piece_cells → shape_of (map cell_word cs) ≡ Ok (kept_shape cs)
-unfolding shape_of
-shape_again cs p a l = rw (piece_again [] cs p a (omega arith)) refl
-
-names_again : (need : Need) (several : Bool) (names : List ℕ) → are_names need several names ≡ true → word_names need several names ≡ Some names
-names_again need several names h = rw (and_parts (is_must need || not several) (list_all is_name names && are_so_many need several (length names)) h).1 refl
-
-told : {A : Type 0} (b : Bool) (x y : A) → cond b (Some x) None ≡ Some y → (b ≡ true) × (x ≡ y)
-told true x y h = (refl, same_Some x y h)
-told false x y h = absurd (none-some y h)
-
-names_is : (need : Need) (several : Bool) (word names : List ℕ) → (is_must need || not several) ≡ true → word_names need several word ≡ Some names → (are_names need several names ≡ true) × (word ≡ names)
-names_is need several word names m h =
-    let t = told (list_all is_name word && are_so_many need several (length word)) word names h in
-    (and_from _ _ m (subst (λ (w : List ℕ). (list_all is_name w && are_so_many need several (length w)) ≡ true) t.1 t.0), t.1)
-
-piece_again_line : (s : DraftValue) (need : Need) (several mirrored : Bool) (names : List ℕ) (cs : List Coordinates) → is_line (piece need several mirrored names cs) ≡ true → not (some_repeated (taken_in s) names) ≡ true → piece_line s need several mirrored (names ∷ map cell_word cs) ≡ Ok (with_line s need mirrored names (kept_shape cs))
-piece_again_line s need several mirrored names cs is fit =
-    let p = and_parts (are_names need several names) (are_in_grid cs && (are_apart cs && nat_le (length cs) most_piece_cells)) is in
-    let q = and_parts (are_in_grid cs) (are_apart cs && nat_le (length cs) most_piece_cells) p.1 in
-    let r = and_parts (are_apart cs) (nat_le (length cs) most_piece_cells) q.1 in
-    let u = and_parts (nat_lt 0 (length cs)) (list_all is_in_grid cs) q.0 in
-    piece_read s need several mirrored (names ∷ map cell_word cs) names (map cell_word cs) names (kept_shape cs) refl (some_words cs (ltb-true 0 (length cs) u.0))
-    (names_found (taken_in s) need several names names (sym (names_again need several names p.0)) (not-true _ fit)) (shape_again cs u.1 r.0 (leb-true (length cs) most_piece_cells r.1))
-
-are_named : (need : Need) (several : Bool) (names : List ℕ) → are_names need several names ≡ true → list_all is_name names ≡ true
-are_named need several names h =
-    (and_parts (list_all is_name names) (are_so_many need several (length names))
-    (and_parts (is_must need || not several) (list_all is_name names && are_so_many need several (length names)) h).1).0
-
-copies_again_line : (s : DraftValue) (mirrored : Bool) (names : List ℕ) (cs : List Coordinates) → is_line (piece needs.Must true mirrored names cs) ≡ true → not (some_repeated (taken_in s) names) ≡ true
-    → copies_line s mirrored (names ∷ map cell_word cs) ≡ Ok (with_line s needs.Must mirrored names (kept_shape cs))
-unfolding copies_line
-copies_again_line s mirrored names cs is fit =
-    let p = and_parts (are_names needs.Must true names) (are_in_grid cs && (are_apart cs && nat_le (length cs) most_piece_cells)) is in
-    rw (plus_none names (are_named needs.Must true names p.0)) (piece_again_line s needs.Must true mirrored names cs is fit)
-
--- a line of which some pieces are spare is as a line of all of them
-as_piece : (mirrored : Bool) (names spare : List ℕ) (cs : List Coordinates) → is_line (range mirrored names spare cs) ≡ true
-    → (nat_lt 0 (length spare) ≡ true) × (is_line (piece needs.Must true mirrored (names ++ spare) cs) ≡ true)
-as_piece mirrored names spare cs is =
-    let cells = are_in_grid cs && (are_apart cs && nat_le (length cs) most_piece_cells) in
-    let p = and_parts (are_ranged names spare) cells is in
-    let q = and_parts (nat_lt 0 (length spare)) (are_names needs.Must true (names ++ spare)) p.0 in
-    (q.0, and_from (are_names needs.Must true (names ++ spare)) cells q.1 p.1)
-
-range_from_piece : (s : DraftValue) (mirrored : Bool) (needed spare : List ℕ) (words : List (List ℕ)) (t : DraftValue) → nat_lt 0 (length spare) ≡ true
-    → piece_line s needs.Must true mirrored ((needed ++ spare) ∷ words) ≡ Ok t → range_line s mirrored needed spare words ≡ Ok (with_spare t spare)
-unfolding range_line
-range_from_piece s mirrored needed spare words t some h =
-    let p = piece_parts s needs.Must true mirrored (needed ++ spare) words t h in
-    let lt = ltb-true 0 (length spare) some in
-    let none : (length spare == 0) ≡ false = ne_eqb (length spare) 0 (λ e. omega (arith, e, lt)) in
-    rw (p.0, none, p.1.1, p.1.2.1) (ap (λ u. Ok (with_spare u spare)) p.1.2.2)
-
-range_again_line : (s : DraftValue) (mirrored : Bool) (names spare : List ℕ) (cs : List Coordinates) → is_line (range mirrored names spare cs) ≡ true → not (some_repeated (taken_in s) (names ++ spare)) ≡ true
-    → copies_line s mirrored ((names ++ 43 ∷ spare) ∷ map cell_word cs) ≡ Ok (plus s (range mirrored names spare cs))
-unfolding copies_line
-range_again_line s mirrored names spare cs is fit =
-    let p = as_piece mirrored names spare cs is in
-    let good = (all_parts names spare (are_named needs.Must true (names ++ spare) (and_parts (are_names needs.Must true (names ++ spare)) (are_in_grid cs && (are_apart cs && nat_le (length cs) most_piece_cells)) p.1).0)).0 in
-    let w = plus_again spare names good in
-    rw (w.0, w.1, w.2)
-    (range_from_piece s mirrored names spare (map cell_word cs) (with_line s needs.Must mirrored (names ++ spare) (kept_shape cs)) p.0
-    (piece_again_line s needs.Must true mirrored (names ++ spare) cs p.1 fit))
-  where
-    all_parts : (xs ys : List ℕ) → list_all is_name (xs ++ ys) ≡ true → (list_all is_name xs ≡ true) × (list_all is_name ys ≡ true)
-    all_parts [] ys h = (refl, h)
-    all_parts (x ∷ xs) ys h =
-        let p = and_parts (is_name x) (list_all is_name (xs ++ ys)) h in
-        let rest = all_parts xs ys p.1 in
-        (and_from (is_name x) (list_all is_name xs) p.0 rest.0, rest.1)
-
-box_again_line : (s : DraftValue) (a b c : ℕ) → is_line (box a b c) ≡ true → is_fit s (box a b c) ≡ true → box_line s (decimal a ∷ decimal b ∷ decimal c ∷ []) ≡ Ok (with_box s a b c)
-unfolding box_line
-box_again_line s a b c is fit =
-    let p = and_parts (is_side a) (is_side b && is_side c) is in
-    let q = and_parts (is_side b) (is_side c) p.1 in
-    let f = and_parts (not s.boxed) (is_small (with_box s a b c)) fit in
-    let x = side_again a p.0 in
-    let y = side_again b q.0 in
-    let z = side_again c q.1 in
-    let i = (and_parts (nat_lt 0 a) (nat_le a most_size) p.0).1 in
-    let j = (and_parts (nat_lt 0 b) (nat_le b most_size) q.0).1 in
-    let k = (and_parts (nat_lt 0 c) (nat_le c most_size) q.1).1 in
-    sized (decimal a) (decimal b) (decimal c) (and_from _ _ x.0 (and_from _ _ y.0 z.0)) x.1 y.1 z.1 (and_from _ _ i (and_from _ _ j k)) (not-true _ f.0) f.1
-  where
-    sized : (u v w : List ℕ) → are_sizes u v w ≡ true → size_from u ≡ a → size_from v ≡ b → size_from w ≡ c → (nat_le a most_size && (nat_le b most_size && nat_le c most_size)) ≡ true → s.boxed ≡ false → is_small (with_box s a b c) ≡ true → sized_box s (Some (u, v, w)) ≡ Ok (with_box s a b c)
-    sized u v w sizes x y z few first small = rw (sizes, first, x, y, z, few, small) refl
-
-cells_again_line : (s : DraftValue) (cs : List Coordinates) → are_in_grid cs ≡ true → is_fit s (cells false cs) ≡ true → cells_line s (map cell_word cs) ≡ Ok (plus s (cells false cs))
-unfolding cells_line
-cells_again_line s cs is fit =
-    let u = and_parts (nat_lt 0 (length cs)) (list_all is_in_grid cs) is in
-    rw (some_words cs (ltb-true 0 (length cs) u.0), cells_again s.named cs u.1, fit) refl
-
-maybe_again_line : (s : DraftValue) (cs : List Coordinates) → are_in_grid cs ≡ true → is_fit s (cells true cs) ≡ true → maybe_cells_line s (map cell_word cs) ≡ Ok (plus s (cells true cs))
-unfolding maybe_cells_line
-maybe_again_line s cs is fit =
-    let u = and_parts (nat_lt 0 (length cs)) (list_all is_in_grid cs) is in
-    rw (some_words cs (ltb-true 0 (length cs) u.0), cells_again s.named cs u.1, cells_again s.maybe_cells cs u.1, fit) refl
-
-cut_again_line : (s : DraftValue) (cs : List Coordinates) → are_in_grid cs ≡ true → cut_line s (map cell_word cs) ≡ Ok (plus s (cut cs))
-unfolding cut_line
-cut_again_line s cs is =
-    let u = and_parts (nat_lt 0 (length cs)) (list_all is_in_grid cs) is in
-    rw (some_words cs (ltb-true 0 (length cs) u.0), cells_again s.cut cs u.1) refl
-
-pub line_again : (s : DraftValue) (l : Line) → is_line l ≡ true → is_fit s l ≡ true → words_line s (line_words l) ≡ Ok (plus s l)
-unfolding words_line maybe_line any_line mirror_line
-line_again s (piece needs.Must true true names cs) is fit = copies_again_line s true names cs is fit
-line_again s (piece needs.Must true false names cs) is fit = copies_again_line s false names cs is fit
-line_again s (piece needs.Must false true names cs) is fit = piece_again_line s needs.Must false true names cs is fit
-line_again s (piece needs.Must false false names cs) is fit = piece_again_line s needs.Must false false names cs is fit
-line_again s (piece needs.Maybe true true names cs) is fit = absurd (both_ways false refl is)
-line_again s (piece needs.Maybe true false names cs) is fit = absurd (both_ways false refl is)
-line_again s (piece needs.Maybe false true names cs) is fit = piece_again_line s needs.Maybe false true names cs is fit
-line_again s (piece needs.Maybe false false names cs) is fit = piece_again_line s needs.Maybe false false names cs is fit
-line_again s (piece needs.Any true true names cs) is fit = absurd (both_ways false refl is)
-line_again s (piece needs.Any true false names cs) is fit = absurd (both_ways false refl is)
-line_again s (piece needs.Any false true names cs) is fit = piece_again_line s needs.Any false true names cs is fit
-line_again s (piece needs.Any false false names cs) is fit = piece_again_line s needs.Any false false names cs is fit
-line_again s (range true names spare cs) is fit = range_again_line s true names spare cs is fit
-line_again s (range false names spare cs) is fit = range_again_line s false names spare cs is fit
-line_again s (box a b c) is fit = box_again_line s a b c is fit
-line_again s (cells true cs) is fit = maybe_again_line s cs is fit
-line_again s (cells false cs) is fit = cells_again_line s cs is fit
-line_again s (cut cs) is fit = cut_again_line s cs is
+use Rattle.poly_texts.proofs.ReadingLemmas.{piece_read}
+use Rattle.poly_texts.proofs.PlusLemmas.{plus_is, drop_first}
+use Rattle.poly_texts.proofs.SpellingLemmas.{words_same, cells_again, cells_are, piece_cells_are, side_is}
+use Rattle.poly_texts.proofs.PartLemmas.{plus, is_fit, some_cells, within_is, name_parts, shape_parts, piece_parts, names_is}
 
 -- *a line that is taken fits*
 

@@ -10,7 +10,7 @@ use Rattle.poly_texts.specs.Puzzle.{PuzzleValue, names_of, has_name, are_new, sh
 use Rattle.poly_texts.specs.declared.need.Need.TheVariants as needs
 use Rattle.poly_texts.specs.Grammar.{Line, piece, range, box, cells, cut, is_line, piece_of, any_name_of, symbols_by, taken_by}
 use Rattle.poly_texts.proofs.FreshLemmas.{has_in, in_has}
-use Rattle.poly_texts.proofs.NameLemmas.{NewNames, laid_names, laid_own, names_flat, name_good, line_new, one_line, sub_new, flat_map_append}
+use Rattle.poly_texts.proofs.LineNameLemmas.{NewNames, laid_names, laid_own, names_flat, name_good, line_new, one_line, sub_new, flat_map_append}
 
 symbol_names : Line → List ℕ
 symbol_names l = flat_map (λ word. word) (symbols_by l)

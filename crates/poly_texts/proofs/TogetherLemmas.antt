@@ -13,7 +13,7 @@ use Rattle.poly_texts.specs.Grammar.{Line, piece, range, box, cells, cut, is_lin
 use Rattle.poly_texts.specs.declared.need.Need.TheVariants as needs
 use Rattle.poly_texts.proofs.CellLemmas.{with_cells-append, with_none}
 use Rattle.poly_texts.proofs.FreshLemmas.{fresh_new, fresh_from, fresh_joined, fresh_parted, taken_more}
-use Rattle.poly_texts.proofs.LineLemmas.{plus, is_small, is_fit}
+use Rattle.poly_texts.proofs.PartLemmas.{plus, is_small, is_fit}
 
 -- each line fits after the ones before it
 abbrev pub all_fit : DraftValue → List Line → Bool

@@ -8,3 +8,4 @@ pub mod Reading
 pub mod Grammar
 pub mod Plain
 pub mod Lists
+pub mod Answers

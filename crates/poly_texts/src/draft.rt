@@ -1,13 +1,15 @@
 //! What has been read of a puzzle text.
-ghost use Rattle.std.specs.Prelude.{◌≡◌, ◌++◌, ◌≤◌, true, false, Ok, ◌<◌, drop, length, IfOk, OnOk, IfNone};
-ghost use Rattle.poly_texts.specs.declared.need.Need.TheVariants as needs;
+ghost use Rattle.std.specs.Prelude.{◌≡◌, true, false, Ok, ◌<◌, length, IfOk, IfNone};
 ghost use Rattle.std.specs.List.Sorted.{IsStrictlySortedBy};
 ghost use Rattle.text_lines.specs.Lines.{words_of};
 ghost use Rattle.poly_cells.specs.Coordinates.{coordinates_cmp};
 ghost use Rattle.text_lines.specs.Answers.{Gives};
+ghost use Rattle.poly_texts.specs.Answers.{Becomes};
 ghost use Rattle.poly_texts.specs.Puzzle.{PuzzleValue, IsPuzzle};
 ghost use Rattle.poly_texts.specs.Reading as reading;
-ghost use Rattle.poly_texts.specs.Reading.{has_piece, nothing, some_repeated, taken_in, with_line, with_pieces, with_region, with_spare};
+ghost use Rattle.poly_texts.specs.Reading.{nothing, with_region};
+
+mod piece_lines;
 
 use crate::cells::{add_box, add_cells, are_all_in, uncut};
 use crate::fault::{Fault, LineFault};
@@ -15,12 +17,9 @@ use crate::key::{Key, key_of};
 use crate::limits::MOST_REGION_CELLS;
 use crate::name::PieceName;
 use crate::need::Need;
-use crate::piece::shape_of;
-use crate::pieces::{
-    add_group, add_names, add_pieces, add_symbols, are_all_named, new_names, pieces_named,
-};
+use crate::pieces::are_all_named;
 use crate::puzzle::Puzzle;
-use crate::word::{are_sizes, joined, sizes_of, split_plus, three_words};
+use crate::word::{are_sizes, sizes_of, three_words};
 use indexmap::{IndexMap, IndexSet};
 use poly_cells::{Cell, Shape};
 use std::alloc::{AllocError, Global};
@@ -84,158 +83,10 @@ impl Draft {
         Ok(())
     }
 
-    /// Takes the piece of a `piece` line.
-    #[tactic(auto, unfolding(crate::specs::Reading::piece_line))]
-    fn take_piece(
-        &mut self,
-        alloc: Global,
-        need: Need,
-        are_several: bool,
-        is_mirrored: bool,
-        words: &[u8],
-    ) -> Result<(), LineFault>
-        ensures { Gives (λ _. self.new) result (reading.piece_line self.old need are_several is_mirrored (words_of words.now)) }
-    {
-        let Some((word, cells)) = split_word(words) else {
-            return Err(LineFault::Fault(Fault::BadLine));
-        };
-        if !has_words(cells) {
-            return Err(LineFault::Fault(Fault::BadLine));
-        }
-        let names = new_names(
-            alloc,
-            &self.pieces,
-            self.symbols.as_slice(),
-            need,
-            are_several,
-            word,
-        )?;
-        let shape = shape_of(alloc, cells)?;
-        self.add_line(alloc, need, is_mirrored, names.as_slice(), &shape)?;
-        Ok(())
-    }
-
-    /// Takes the pieces of a `copies` line, with a `+` or without.
-    #[tactic(auto, unfolding(crate::specs::Reading::copies_line))]
-    fn take_copies(
-        &mut self,
-        alloc: Global,
-        is_mirrored: bool,
-        words: &[u8],
-    ) -> Result<(), LineFault>
-        ensures { Gives (λ _. self.new) result (reading.copies_line self.old is_mirrored (words_of words.now)) }
-    {
-        let Some((word, cells)) = split_word(words) else {
-            return Err(LineFault::Fault(Fault::BadLine));
-        };
-        if let Some((needed, spare)) = split_plus(word) {
-            return self.take_range(alloc, is_mirrored, needed, spare, cells);
-        }
-        self.take_piece(alloc, Need::Must, true, is_mirrored, words)
-    }
-
-    /// Takes the pieces of a `copies` line with these symbols before and after the `+`.
-    #[tactic(auto, unfolding(crate::specs::Reading::range_line))]
-    fn take_range(
-        &mut self,
-        alloc: Global,
-        is_mirrored: bool,
-        needed: &[u8],
-        spare: &[u8],
-        cells: &[u8],
-    ) -> Result<(), LineFault>
-        ensures { Gives (λ _. self.new) result (reading.range_line self.old is_mirrored needed.now spare.now (words_of cells.now)) }
-    {
-        if !has_words(cells) || spare.is_empty() {
-            return Err(LineFault::Fault(Fault::BadLine));
-        }
-        let names = self.range_names(alloc, needed, spare)?;
-        let shape = shape_of(alloc, cells)?;
-        self.add_range(alloc, is_mirrored, names.as_slice(), needed.len(), &shape)?;
-        Ok(())
-    }
-
-    /// The names of a `copies` line with these symbols before and after the `+`.
-    fn range_names(
-        &self,
-        alloc: Global,
-        needed: &[u8],
-        spare: &[u8],
-    ) -> Result<Vec<PieceName>, LineFault>
-        ensures name { Gives (λ names. names.items) result
-            (reading.new_names (taken_in self.now) needs.Must true (needed.now ++ spare.now)) }
-        ensures new { IfOk result (λ names. some_repeated (taken_in self.now) names.items ≡ false) }
-    {
-        let word = joined(alloc, needed, spare)?;
-        new_names(
-            alloc,
-            &self.pieces,
-            self.symbols.as_slice(),
-            Need::Must,
-            true,
-            word.as_slice(),
-        )
-    }
-
-    /// Adds what a `copies` line with a `+` says, before which so many of the names stand.
-    fn add_range(
-        &mut self,
-        alloc: Global,
-        is_mirrored: bool,
-        names: &[PieceName],
-        needed: usize,
-        shape: &Shape,
-    ) -> Result<(), AllocError>
-        requires new { some_repeated (taken_in self.old) names.now ≡ false }
-        requires within { needed ≤ length names.now }
-        ensures { OnOk result
-            (self.new ≡ with_spare (with_line self.old needs.Must is_mirrored names.now shape.now) (drop needed names.now)) }
-    {
-        self.add_line(alloc, Need::Must, is_mirrored, names, shape)?;
-        self.spare.extend_from_slice(names.split_at(needed).1)?;
-        Ok(())
-    }
-
-    /// Adds what a line of these symbols says.
-    fn add_line(
-        &mut self,
-        alloc: Global,
-        need: Need,
-        is_mirrored: bool,
-        names: &[PieceName],
-        shape: &Shape,
-    ) -> Result<(), AllocError>
-        requires { some_repeated (taken_in self.old) names.now ≡ false }
-        ensures { OnOk result (self.new ≡ with_line self.old need is_mirrored names.now shape.now) }
-    {
-        self.add_equal(alloc, need, is_mirrored, pieces_named(need, names), shape)?;
-        add_symbols(alloc, &mut self.symbols, need, names)
-    }
-
-    /// Adds equal pieces.
-    fn add_equal(
-        &mut self,
-        alloc: Global,
-        need: Need,
-        is_mirrored: bool,
-        names: &[PieceName],
-        shape: &Shape,
-    ) -> Result<(), AllocError>
-        requires { some_repeated (has_piece self.old.pieces) names.now ≡ false }
-        ensures { OnOk result (self.new ≡ with_pieces self.old need is_mirrored names.now shape.now) }
-    {
-        add_pieces(&mut self.pieces, names, shape)?;
-        add_names(&mut self.maybe_pieces, need.is_maybe(), names)?;
-        add_names(&mut self.any_pieces, need.is_any(), names)?;
-        add_names(&mut self.mirrored, is_mirrored, names)?;
-        add_group(alloc, &mut self.equal, names)?;
-        Ok(())
-    }
-
     /// Takes the cells of a `box` line.
     #[tactic(auto, unfolding(crate::specs::Reading::box_line))]
     fn take_box(&mut self, words: &[u8]) -> Result<(), LineFault>
-        ensures { Gives (λ _. self.new) result (reading.box_line self.old (words_of words.now)) }
+        ensures { Becomes result self.new (reading.box_line self.old (words_of words.now)) }
     {
         let Some((a, b, c)) = three_words(words) else {
             return Err(LineFault::Fault(Fault::BadLine));
@@ -257,7 +108,7 @@ impl Draft {
     /// Takes the cells of a `cells` line.
     #[tactic(auto, unfolding(crate::specs::Reading::cells_line))]
     fn take_cells(&mut self, words: &[u8]) -> Result<(), LineFault>
-        ensures { Gives (λ _. self.new) result (reading.cells_line self.old (words_of words.now)) }
+        ensures { Becomes result self.new (reading.cells_line self.old (words_of words.now)) }
     {
         if !has_words(words) {
             return Err(LineFault::Fault(Fault::BadLine));
@@ -269,7 +120,7 @@ impl Draft {
     /// Takes the cells of a `maybe cells` line.
     #[tactic(auto, unfolding(crate::specs::Reading::maybe_cells_line))]
     fn take_maybe_cells(&mut self, words: &[u8]) -> Result<(), LineFault>
-        ensures { Gives (λ _. self.new) result (reading.maybe_cells_line self.old (words_of words.now)) }
+        ensures { Becomes result self.new (reading.maybe_cells_line self.old (words_of words.now)) }
     {
         if !has_words(words) {
             return Err(LineFault::Fault(Fault::BadLine));
@@ -282,7 +133,7 @@ impl Draft {
     /// Takes the cells of a `cut` line.
     #[tactic(auto, unfolding(crate::specs::Reading::cut_line))]
     fn take_cut(&mut self, words: &[u8]) -> Result<(), LineFault>
-        ensures { Gives (λ _. self.new) result (reading.cut_line self.old (words_of words.now)) }
+        ensures { Becomes result self.new (reading.cut_line self.old (words_of words.now)) }
     {
         if !has_words(words) {
             return Err(LineFault::Fault(Fault::BadLine));
@@ -293,7 +144,7 @@ impl Draft {
     /// Takes what a `maybe` line says after that word.
     #[tactic(auto, unfolding(crate::specs::Reading::maybe_line))]
     fn take_maybe(&mut self, alloc: Global, words: &[u8]) -> Result<(), LineFault>
-        ensures { Gives (λ _. self.new) result (reading.maybe_line self.old (words_of words.now)) }
+        ensures { Becomes result self.new (reading.maybe_line self.old (words_of words.now)) }
     {
         let Some((key, words)) = split_word(words) else {
             return Err(LineFault::Fault(Fault::BadLine));
@@ -314,7 +165,7 @@ impl Draft {
     /// Takes what an `any` line says after that word.
     #[tactic(auto, unfolding(crate::specs::Reading::any_line))]
     fn take_any(&mut self, alloc: Global, words: &[u8]) -> Result<(), LineFault>
-        ensures { Gives (λ _. self.new) result (reading.any_line self.old (words_of words.now)) }
+        ensures { Becomes result self.new (reading.any_line self.old (words_of words.now)) }
     {
         let Some((key, words)) = split_word(words) else {
             return Err(LineFault::Fault(Fault::BadLine));
@@ -339,7 +190,8 @@ impl Draft {
         need: Need,
         words: &[u8],
     ) -> Result<(), LineFault>
-        ensures { Gives (λ _. self.new) result (reading.mirrored_copies self.old need (words_of words.now)) }
+        ensures { Becomes result self.new
+            (reading.mirrored_copies self.old need (words_of words.now)) }
     {
         if !need.is_must() {
             return Err(LineFault::Fault(Fault::BadLine));
@@ -350,7 +202,7 @@ impl Draft {
     /// Takes what a `mirror` line says after that word.
     #[tactic(auto, unfolding(crate::specs::Reading::mirror_line))]
     fn take_mirror(&mut self, alloc: Global, need: Need, words: &[u8]) -> Result<(), LineFault>
-        ensures { Gives (λ _. self.new) result (reading.mirror_line self.old need (words_of words.now)) }
+        ensures { Becomes result self.new (reading.mirror_line self.old need (words_of words.now)) }
     {
         let Some((key, words)) = split_word(words) else {
             return Err(LineFault::Fault(Fault::BadLine));
@@ -371,7 +223,7 @@ impl Draft {
     /// Takes a line of these words.
     #[tactic(auto, unfolding(crate::specs::Reading::words_line))]
     fn take_words(&mut self, alloc: Global, words: &[u8]) -> Result<(), LineFault>
-        ensures { Gives (λ _. self.new) result (reading.words_line self.old (words_of words.now)) }
+        ensures { Becomes result self.new (reading.words_line self.old (words_of words.now)) }
     {
         let Some((key, words)) = split_word(words) else {
             return Ok(());

@@ -40,7 +40,8 @@ impl PieceName {
         are_several: bool,
         word: &[u8],
     ) -> Result<Option<Vec<PieceName>>, AllocError>
-        ensures { IfOk result (λ found. option_map (λ names. names.items) found ≡ words.word_names need are_several word.now) }
+        ensures { IfOk result (λ found. option_map (λ names. names.items) found ≡
+            words.word_names need are_several word.now) }
     {
         if !are_so_many(need, are_several, word.len()) {
             return Ok(None);

@@ -58,7 +58,8 @@ fn is_repeated(
     symbols: &[Vec<PieceName>],
     names: &[PieceName],
 ) -> bool
-    ensures { result ≡ some_repeated (is_taken pieces.now.entries (lists_of symbols.now)) names.now }
+    ensures { result ≡
+        some_repeated (is_taken pieces.now.entries (lists_of symbols.now)) names.now }
 {
     for k in 0..names.len() {
         let name = names[k];
@@ -82,8 +83,8 @@ pub fn new_names(
     are_several: bool,
     word: &[u8],
 ) -> Result<Vec<PieceName>, LineFault>
-    ensures name { Gives (λ names. names.items) result
-        (reading.new_names (is_taken pieces.now.entries (lists_of symbols.now)) need are_several word.now) }
+    ensures name { Gives (λ names. names.items) result (reading.new_names
+        (is_taken pieces.now.entries (lists_of symbols.now)) need are_several word.now) }
     ensures new { IfOk result (λ names.
         some_repeated (is_taken pieces.now.entries (lists_of symbols.now)) names.items ≡ false) }
 {
@@ -134,7 +135,8 @@ pub fn add_pieces(
     shape: &Shape,
 ) -> Result<(), AllocError>
     requires { some_repeated (has_piece pieces.old.entries) names.now ≡ false }
-    ensures { OnOk result (pieces.new.entries ≡ pieces.old.entries ++ named_shapes names.now shape.now) }
+    ensures { OnOk result
+        (pieces.new.entries ≡ pieces.old.entries ++ named_shapes names.now shape.now) }
 {
     for name in names {
         add_piece(pieces, *name, shape.copy()?)?;
@@ -163,7 +165,8 @@ pub fn add_symbols(
     need: Need,
     names: &[PieceName],
 ) -> Result<(), AllocError>
-    ensures { OnOk result (lists_of symbols.new.items ≡ lists_of symbols.old.items ++ reading.symbols_of need names.now) }
+    ensures { OnOk result (lists_of symbols.new.items ≡
+        lists_of symbols.old.items ++ reading.symbols_of need names.now) }
 {
     if need.is_any() {
         return add_group(alloc, symbols, names);
@@ -177,7 +180,8 @@ pub fn add_group(
     groups: &mut Vec<Vec<PieceName>>,
     names: &[PieceName],
 ) -> Result<(), AllocError>
-    ensures { OnOk result (lists_of groups.new.items ≡ lists_of groups.old.items ++ group_of names.now) }
+    ensures { OnOk result
+        (lists_of groups.new.items ≡ lists_of groups.old.items ++ group_of names.now) }
 {
     if names.len() > 1 {
         groups.push(Vec::from_slice(alloc, names)?)?;
@@ -192,7 +196,8 @@ pub fn are_all_named(
     any: &[PieceName],
     spare: &[PieceName],
 ) -> bool
-    ensures { result ≡ list_all (has_name (names_unneeded maybe.now any.now spare.now)) (names_of pieces.now.entries) }
+    ensures { result ≡ list_all (has_name (names_unneeded maybe.now any.now spare.now))
+        (names_of pieces.now.entries) }
 {
     pieces
         .keys()

@@ -4,8 +4,8 @@ use Rattle.std.specs.Int.Count.{ones}
 use Rattle.cover_problem.specs.Lists.{numbers}
 use Rattle.cover_problem.proofs.CoverExamples.{small}
 use Rattle.cover_bits.specs.declared.sets.Part.{Part}
-use Rattle.cover_bits.specs.Parts.{words_for, in_row, in_parts, in_both, ones_of_both, without_row, shared_from, shared_below, to_come}
-use Rattle.cover_bits.specs.Bits.{row_at, is_left, full_set}
+use Rattle.cover_bits.specs.Parts.{words_for, in_row, in_parts, in_both, ones_of_both, shared_from, shared_below, to_come}
+use Rattle.cover_bits.specs.Bits.{row_at, is_left, in_columns, full_set}
 use Rattle.cover_bits.specs.Rule.{TablesFit, Suits}
 
 abbrev row : List ℕ
@@ -25,10 +25,6 @@ parts = record { word = 5; place = 0 } ∷ record { word = 2; place = 2 } ∷ []
 
 numbers_of_parts : filter (in_parts parts) (numbers 192 0) ≡ 0 ∷ 2 ∷ 129 ∷ []
 numbers_of_parts = refl
-
--- without a row that has 2 and 129 the place 2 has no part
-without_two : without_row (4 ∷ 0 ∷ 2 ∷ []) parts ≡ record { word = 1; place = 0 } ∷ []
-without_two = refl
 
 shares_two : ones_of_both parts (4 ∷ 0 ∷ 2 ∷ []) ≡ 2
 unfolding ones
@@ -53,8 +49,15 @@ column_of_d = refl
 all_left : full_set 6 (words_for 6) ≡ record { word = 63; place = 0 } ∷ []
 all_left = refl
 
+-- a is in the options 2 and 4, and of a and b the options 2 to 5 have one
+in_column_of_a : filter (in_columns 1 columns (1 ∷ [])) (numbers 64 0) ≡ 1 ∷ 3 ∷ []
+in_column_of_a = refl
+
+in_columns_of_both : filter (in_columns 1 columns (1 ∷ 2 ∷ [])) (numbers 64 0) ≡ 1 ∷ 2 ∷ 3 ∷ 4 ∷ []
+in_columns_of_both = refl
+
 -- once a is covered, 1 3 5 6 are left
-after_a : without_row (row_at 1 0 columns) (full_set 6 1) ≡ record { word = 53; place = 0 } ∷ []
+after_a : filter (in_parts (record { word = 53; place = 0 } ∷ [])) (numbers 64 0) ≡ 0 ∷ 2 ∷ 4 ∷ 5 ∷ []
 after_a = refl
 
 left_after_a : filter (is_left small (1 ∷ [])) (numbers 64 0) ≡ 0 ∷ 2 ∷ 4 ∷ 5 ∷ []

@@ -33,7 +33,7 @@ pub record NextMet (p : ProblemValue) (c act : List ℕ) (rest2 : Rest) (start :
   pub is : next ≡ above start (active p c)
   pub ahead : IfSome next (λ n. IsAhead act rest2 n)
 
-module _ {o pr w : ℕ} {cols : List ℕ} {ps : List Part} {ns act ts : List ℕ} {never room : ℕ} {s t : TableValue} (e : s ≡ t) (h : IsBits s.problem o pr w cols ps ns act s.covered ts never room)
+module _ {o pr w : ℕ} {cols : List ℕ} {ps : List Part} {ns bs act : List ℕ} {room : ℕ} {s t : TableValue} (e : s ≡ t) (h : IsBits s.problem o pr w cols ps ns bs act s.covered room)
     (row : List ℕ) (at : row ≡ act) (rest rest2 : Rest) (found next : Option ℕ) (m : Met row rest rest2 found) (told : next ≡ option_map (λ k. k + 1) found) where
   met : Met act rest rest2 found
   met = subst (λ r. Met r rest rest2 found) at m

@@ -20,8 +20,6 @@ use Rattle.cover_bits.specs.Bits.{is_left, AreLeft, AreColumns, IsBits, full_wor
 use Rattle.cover_bits.proofs.PartLemmas.{placed_in}
 use Rattle.cover_bits.proofs.TurnLemmas.{lent}
 use Rattle.cover_problem.proofs.CoveredLemmas.{covered_none}
-use Rattle.cover_problem.proofs.TimeLemmas.{times_none}
-use Rattle.cover_problem.specs.Plain.{times_of}
 use Rattle.std.proofs.lemmas.List.{get_or-set_same, get_or-set_other, get_or-replicate, length-replicate}
 
 -- which row of an option's is meant
@@ -175,15 +173,15 @@ zeros_at n d = by (cases_lt d n)
     by (inl l) = get_or-replicate n d 0 0 l
     by (inr l) = get_or_past (zeros n) d 0 (let e = zeros_long n in omega arith)
 
-pub bits_new : (p value : ProblemValue) (options primary words n : ℕ) (cols cols2 : List ℕ) (clen : ℕ) (ps ps2 : List Part) (plen : ℕ) (ns act act2 : List ℕ) (alen : ℕ) (c ts : List ℕ) (never room : ℕ)
+pub bits_new : (p value : ProblemValue) (options primary words n : ℕ) (cols cols2 : List ℕ) (clen : ℕ) (ps ps2 : List Part) (plen : ℕ) (ns bs act act2 : List ℕ) (alen : ℕ) (c : List ℕ) (room : ℕ)
     → IsProblem p → value ≡ p → options ≡ length p.options → primary ≡ p.primary → words ≡ words_for options → n ≡ length p.names
     → length cols ≡ n * words → length cols2 ≡ length cols → AreColumns p words cols2 → clen ≡ length cols
     → length ps ≡ (n + 1) * words → length ps2 ≡ length ps → take words ps2 ≡ full_set options words → plen ≡ length ps
-    → ns ≡ zeros (n + 1)
+    → ns ≡ zeros (n + 1) → bs ≡ zeros (n + 1)
     → length act ≡ words_for n → length act2 ≡ length act → ((k : ℕ) → in_row act2 k ≡ nat_lt k primary) → alen ≡ length act
-    → c ≡ [] → ts ≡ replicate n never → n ≤ room
-    → IsBits value options primary words (take clen (cols2 ++ drop (length cols2) cols)) (take plen (ps2 ++ drop (length ps2) ps)) (set ns 0 words) (take alen (act2 ++ drop (length act2) act)) c ts never room
-bits_new p value options primary words n cols cols2 clen ps ps2 plen ns act act2 alen c ts never room sound v o q w e l1 l2 columns cl p1 p2 full pl z a1 a2 each al none times fits =
+    → c ≡ [] → n ≤ room
+    → IsBits value options primary words (take clen (cols2 ++ drop (length cols2) cols)) (take plen (ps2 ++ drop (length ps2) ps)) (set ns 0 words) bs (take alen (act2 ++ drop (length act2) act)) c room
+bits_new p value options primary words n cols cols2 clen ps ps2 plen ns bs act act2 alen c room sound v o q w e l1 l2 columns cl p1 p2 full pl z zb a1 a2 each al none fits =
     rw (lent clen cols2 cols l2 cl, lent plen ps2 ps p2 pl, lent alen act2 act a2 al, v, none)
     (record {
       sound = sound;
@@ -194,18 +192,23 @@ bits_new p value options primary words n cols cols2 clen ps ps2 plen ns act act2
       columns_are = columns;
       parts_long = p2 ∙ p1 ∙ ap (λ m. (m + 1) * words) e;
       counts_long = length-set ns 0 words ∙ ap (λ xs. length xs) z ∙ zeros_long (n + 1) ∙ ap (λ m. m + 1) e;
+      bases_long = ap (λ xs. length xs) zb ∙ zeros_long (n + 1) ∙ ap (λ m. m + 1) e;
       few = few_at;
-      sets_are = λ d m. set_is d (let s : d ≡ 0 = omega arith in s);
+      below = λ d m. let b = base_none d in omega arith;
+      rise = λ d f le m. let a = base_none d in let b = base_none f in omega arith;
+      sets_are = λ d m. set_is (get_or bs d 0) (base_none d);
       active_long = a2 ∙ a1 ∙ ap words_for e;
       active_are = λ k. each k ∙ ap (nat_lt k) q ∙ sym (yes (nat_lt k p.primary));
       distinct = covered_none p;
-      times_are = times ∙ times_none never n ∙ ap (λ m. times_of never m []) e;
       fits = let f = fits in omega arith;
     })
   where
     yes : (b : Bool) → (b && true) ≡ b
     yes true = refl
     yes false = refl
+
+    base_none : (d : ℕ) → get_or bs d 0 ≡ 0
+    base_none d = ap (λ xs. get_or xs d 0) zb ∙ zeros_at (n + 1) d
 
     some : 0 < length ns
     some = let s = ap (λ xs. length xs) z in let t = zeros_long (n + 1) in omega arith

@@ -1,11 +1,11 @@
 -- Sets of numbers as words: rows of all words, and the parts of such a row that are not 0.
 -- TAOCP volume 4A, section 7.1.3. The bit i of the word at place v stands for the number 64 v + i.
 --
--- Example: the row 5 0 2 has the numbers 0, 2 and 129; its parts are 5 at place 0 and 2 at place 2. Without the row 4 0 2 they are
--- 1 at place 0 alone, and they share two numbers with it. A walk over the row that has met 0 is at the word 4 of place 0, and has still
--- to meet 2 and 129. proofs/BitExamples.antt computes it.
-use Rattle.std.specs.Prelude.{ℕ, ◌<◌, ◌≤◌, ◌≡◌, ◌+◌, ◌-◌, ◌/◌, ◌%◌, ◌*◌, ◌==◌, ◌^◌, Bool, true, false, not, cond, ◌&&◌, nat_lt, suc, List, [], ◌∷◌, sum_by, map, filter, slice_index_or, bit_and, count_ones}
-use Rattle.std.specs.Int.{bit_at, w64, bit_not}
+-- Example: the row 5 0 2 has the numbers 0, 2 and 129; its parts are 5 at place 0 and 2 at place 2. They share two numbers with the row
+-- 4 0 2. A walk over the row that has met 0 is at the word 4 of place 0, and has still to meet 2 and 129. proofs/BitExamples.antt
+-- computes it.
+use Rattle.std.specs.Prelude.{ℕ, ◌<◌, ◌≤◌, ◌≡◌, ◌+◌, ◌-◌, ◌/◌, ◌%◌, ◌*◌, ◌==◌, ◌^◌, Bool, true, false, not, cond, ◌&&◌, nat_lt, suc, List, [], ◌∷◌, sum_by, slice_index_or, bit_and, count_ones}
+use Rattle.std.specs.Int.{bit_at}
 use Rattle.std.specs.List.{list_any}
 use Rattle.cover_bits.specs.declared.sets.Part.{Part}
 use Rattle.cover_bits.specs.declared.walk.Rest.{Rest}
@@ -51,17 +51,9 @@ shared row part = bit_and part.word (slice_index_or row part.place 0)
 abbrev pub ones_of_both : List Part → List ℕ → ℕ
 ones_of_both parts row = sum_by (λ part. count_ones (shared row part)) parts
 
--- what a part has and a row hasn't
-abbrev pub part_without : List ℕ → Part → Part
-part_without row part = record { word = bit_and part.word (bit_not w64 (slice_index_or row part.place 0)); place = part.place }
-
 -- whether a part has a number at all
 abbrev pub is_some_part : Part → Bool
 is_some_part part = not (part.word == 0)
-
--- the parts of what the parts have and a row hasn't
-abbrev pub without_row : List ℕ → List Part → List Part
-without_row row parts = filter is_some_part (map (part_without row) parts)
 
 -- the same word as `shared`, without the numbers below one
 abbrev pub shared_from : List ℕ → ℕ → Part → ℕ

@@ -1,7 +1,9 @@
 //! Bit sets: a table of an exact cover problem that keeps the options left as sets of bits, and the rule that tells whether a run takes it.
 #![tactic(auto)]
 
+mod lists;
 mod making;
+mod passes;
 mod rule;
 mod sets;
 mod table;

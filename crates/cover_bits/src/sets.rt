@@ -2,7 +2,7 @@
 //! are not 0. (TAOCP volume 4A, section 7.1.3.)
 ghost use Rattle.std.specs.Prelude.{◌≡◌, ◌<◌, ◌≤◌, ◌+◌, ◌-◌, ◌*◌, ◌/◌, ◌^◌, ◌&&◌, ◌||◌, ◌==◌, not, ℕ, length, All, take, None, IfSome, Option};
 ghost use Rattle.cover_bits.specs.Parts as parts;
-ghost use Rattle.cover_bits.specs.Parts.{ones_of_both, without_row, shared_from, shared_below, in_both, in_row, IsFirstFrom, NoneFrom, IsLastBelow, NoneBelow, ArePlaced};
+ghost use Rattle.cover_bits.specs.Parts.{ones_of_both, shared_from, shared_below, in_both, in_row, IsFirstFrom, NoneFrom, IsLastBelow, NoneBelow, ArePlaced};
 
 /// A word of a set that is not 0, and its place among the set's words.
 #[derive(Clone, Copy)]
@@ -40,6 +40,15 @@ pub(crate) fn remove(row: &mut [u64], number: usize)
     row[number / 64] &= !(1u64 << (number % 64) as u32);
 }
 
+/// Whether a row has a number.
+#[inline(always)]
+pub(crate) fn has(row: &[u64], number: usize) -> bool
+    requires { number < 64 * length row.now }
+    ensures { result ≡ in_row row.now number }
+{
+    (row[number / 64] >> (number % 64) as u32) % 2 == 1
+}
+
 /// How many numbers both sets have.
 #[inline(always)]
 pub(crate) fn count_both(parts: &[Part], row: &[u64]) -> u32
@@ -52,31 +61,6 @@ pub(crate) fn count_both(parts: &[Part], row: &[u64]) -> u32
         count += (part.word & row[part.place]).count_ones();
     }
     count
-}
-
-/// Writes the parts of what the first set has and the second hasn't, and tells how many these are.
-///
-/// A word that is 0 is written too, and the next one over it: so the loop has no branch. None of them is kept, since a few
-/// levels down most words of a set are 0, and each later count goes over what was kept.
-#[inline(always)]
-pub(crate) fn without(into: &mut [Part], parts: &[Part], row: &[u64]) -> usize
-    requires within { All (λ part. part.place < length row.now) parts.now }
-    requires room { length parts.now ≤ length into.old }
-    requires small { length parts.now < 2 ^ 32 }
-    ensures long { length into.new ≡ length into.old }
-    ensures few { result ≤ length parts.now }
-    ensures parts { take result into.new ≡ without_row row.now parts.now }
-{
-    let mut kept = 0usize;
-    for part in parts {
-        let word = part.word & !row[part.place];
-        into[kept] = Part {
-            word,
-            place: part.place,
-        };
-        kept += (word != 0) as usize;
-    }
-    kept
 }
 
 /// The bits from one on.

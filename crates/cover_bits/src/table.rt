@@ -1,30 +1,26 @@
 //! The table whose lists are bit sets of options.
-ghost use Rattle.std.specs.Prelude.{◌≡◌, ◌<◌, ◌≤◌, ◌+◌, ◌-◌, ◌*◌, ◌^◌, ◌&&◌, ◌||◌, ◌==◌, not, false, ℕ, length, slice_index_or, option_map, vec_capacity, Some};
-ghost use Rattle.std.specs.List.{All};
-ghost use Rattle.cover_problem.specs.Lists.{has};
-ghost use Rattle.cover_problem.specs.Problem as problem;
+ghost use Rattle.std.specs.Prelude.{◌≡◌, ◌<◌, ◌≤◌, ◌+◌, ◌-◌, ◌*◌, ◌^◌, ◌&&◌, ◌||◌, ◌==◌, not, true, false, ℕ, List, [], ◌∷◌, ◌++◌, length, take, option_map, vec_capacity, Some};
+ghost use Rattle.std.specs.List.{position_or_len, before_first};
+ghost use Rattle.cover_problem.specs.Lists.{has, are_distinct};
 ghost use Rattle.cover_problem.specs.Covering.{list_of};
 ghost use Rattle.cover_bits.specs.Parts.{words_for, in_row};
-ghost use Rattle.cover_bits.specs.Bits as bits;
-ghost use Rattle.cover_bits.specs.Bits.{AreLeft, IsListOf, IsNextWithout};
+ghost use Rattle.cover_bits.specs.Bits.{AreLeftBut, IsListOf};
 
+use crate::lists::ItemList;
 use crate::making::{add_below, empty_row, fill, note_all};
-use crate::sets::{
-    Part, add, count_both, first_both, first_in, last_both, next_both, remove, without, words_for,
-};
+use crate::passes::{row, set, write_sets};
+use crate::sets::{Part, add, first_in, remove, words_for};
 use crate::walk::{take_next, whole};
 use cover_problem::{Problem, Table, push_within};
 use std::alloc::{AllocError, Global};
 use std::marker::Model;
 use std::snapshot::Snapshot;
 
-/// The time of an item that isn't covered: later than each that is.
-const NEVER: u32 = u32::MAX;
-
-/// A table of bit sets: for each number of covered items, up to all of them, the options left then. Covering an item writes the next of
-/// these sets, and uncovering it lets that one go, so no option is put back: only its bit among the active items and its time are. An
-/// item's list is what the set at its time shares with its column, which has a bit for each option that has the item. (The table: TAOCP
-/// volume 4B, section 7.2.2.1. Sets as bits, their first and last member and how many there are: volume 4A, section 7.1.3.)
+/// A table of bit sets: the options left, as they were with fewer and fewer items covered. A set is written when an option was taken, for
+/// all of its items at once, and when one more item is covered than the last set knows of: so a search writes one for each choice. To
+/// uncover items lets the sets go that were written since, and no option is put back. An item's list is what a set shares with its column,
+/// which has a bit for each option that has the item. (The table: TAOCP volume 4B, section 7.2.2.1. Sets as bits, their first and last
+/// member and how many there are: volume 4A, section 7.1.3.)
 #[derive(Drop)]
 pub struct BitTable {
     /// The problem, which contracts alone see.
@@ -36,16 +32,15 @@ pub struct BitTable {
     /// For each item a row of so many words: the options that have it.
     columns: Vec<u64>,
     /// For each number of covered items, from 0 up to all, room for the parts of a set: the options that are left with so many
-    /// covered. The sets up to the number of items that are covered are written. All room is taken when the table is made, so
-    /// covering takes no memory.
+    /// covered. Only some of these sets are written. All room is taken when the table is made, so covering takes no memory.
     parts: Vec<Part>,
     /// How many parts each of these sets has.
     counts: Vec<u32>,
+    /// For each number of covered items, up to how many are covered, the number whose set was the last one written then. The items
+    /// between the two haven't been taken out yet.
+    bases: Vec<u32>,
     /// One row: the active items.
     active: Vec<u64>,
-    /// For each item how many were covered before it, or `NEVER`. Which set an item's list is in has to be told by its time, since
-    /// the list of a covered item stays as it was when the item was covered.
-    times: Vec<u32>,
     /// The covered items, with room for all.
     covered: Vec<u32>,
 }
@@ -54,55 +49,13 @@ impl Model for BitTable {
     ghost use Rattle.std.specs.Prelude.{vec_capacity};
     ghost use Rattle.cover_problem.specs.Table.{TableValue};
     ghost use Rattle.cover_bits.specs.Bits.{IsBits};
-    ghost use Rattle.cover_bits.specs.declared.table.TheConstants.{NEVER};
 
     ghost Value = { TableValue };
 
     ghost view = { λ a. record { problem = a.problem.value; covered = a.covered.items } };
 
     ghost invariant = { λ a. IsBits a.problem.value a.options a.primary a.words a.columns.items a.parts.items a.counts.items
-        a.active.items a.covered.items a.times.items NEVER (vec_capacity a.covered) };
-}
-
-/// The row at a place among rows of so many words.
-#[inline(always)]
-fn row(rows: &[u64], words: usize, place: usize) -> &[u64]
-    requires { place * words + words ≤ length rows.now }
-    ensures { result.now ≡ bits.row_at words place rows.now }
-{
-    let (_, rest) = rows.split_at(place * words);
-    let (row, _) = rest.split_at(words);
-    row
-}
-
-/// The set at a place among rows with room for so many parts.
-#[inline(always)]
-fn set<'a>(parts: &'a [Part], counts: &[u32], words: usize, depth: usize) -> &'a [Part]
-    requires depth { depth < length counts.now }
-    requires few { slice_index_or counts.now depth 0 ≤ words }
-    requires within { depth * words + words ≤ length parts.now }
-    ensures { result.now ≡ bits.set_at words parts.now counts.now depth }
-{
-    let (_, rest) = parts.split_at(depth * words);
-    let (set, _) = rest.split_at(counts[depth] as usize);
-    set
-}
-
-/// Writes the set at the next place: what the one at this place has and the column hasn't. Those before it stay.
-#[inline(always)]
-fn write_next(parts: &mut [Part], counts: &mut [u32], words: usize, depth: usize, column: &[u64])
-    requires depth { depth + 1 < length counts.old }
-    requires few { slice_index_or counts.old depth 0 ≤ words }
-    requires within { (depth + 2) * words ≤ length parts.old }
-    requires small { words < 2 ^ 32 }
-    requires placed { All (λ part. part.place < length column.now) (bits.set_at words parts.old counts.old depth) }
-    ensures next { IsNextWithout words depth column.now parts.old parts.new counts.old counts.new }
-    ensures words { (m : ℕ) → slice_index_or column.now m 0 < 2 ^ 64 }
-{
-    // Parted, so that one set is read while the next is written.
-    let (before, next) = parts.split_at_mut((depth + 1) * words);
-    let left = set(before, counts, words, depth);
-    counts[depth + 1] = without(next, left, column) as u32;
+        a.bases.items a.active.items a.covered.items (vec_capacity a.covered) };
 }
 
 /// Takes an item out of the active ones. A secondary item never stands there.
@@ -146,44 +99,129 @@ fn after(number: Option<u32>) -> Option<u32>
     }
 }
 
-impl BitTable {
-    /// The parts of the options left when the item was covered, or now, and the row of the options that have it.
-    #[inline(always)]
-    fn list(&self, item: u32) -> (&[Part], &[u64])
-        requires some { 0 < item }
-        requires within { item ≤ length self.now.problem.names }
-        ensures { IsListOf (list_of self.now.problem self.now.covered item) result.0.now result.1.now }
-    {
-        let place = (item - 1) as usize;
-        let time = self.times[place] as usize;
-        // `NEVER` is later than all: of an item that isn't covered the list is in the last set.
-        let depth = self.covered.len().min(time);
-        (
-            set(&self.parts, &self.counts, self.words, depth),
-            row(&self.columns, self.words, place),
-        )
+/// The place of an item in a list, or the list's length.
+#[inline(always)]
+fn place_of(items: &[u32], item: u32) -> usize
+    ensures { result ≡ position_or_len (λ x. x == item) items.now }
+{
+    items.iter().take_while(|x| **x != item).count()
+}
+
+/// How many items were covered before one. A search asks for the item that was covered last.
+#[inline(always)]
+fn time_of(covered: &[u32], item: u32) -> usize
+    requires { are_distinct covered.now ≡ true }
+    ensures { result ≡ position_or_len (λ x. x == item) covered.now }
+{
+    match covered.split_last() {
+        Some((last, before)) if *last == item => before.len(),
+        _ => place_of(covered, item),
     }
 }
 
+// How lists are read.
 impl BitTable {
-    /// The parts of the options left now. The lists of all items that aren't covered are in them.
+    /// The last set that was written with up to so many items covered, and the items covered since.
     #[inline(always)]
-    fn left(&self) -> &[Part]
-        ensures { AreLeft self.now.problem self.now.covered (words_for (length self.now.problem.options)) result.now }
+    fn left_at(&self, depth: usize) -> (&[Part], &[u32])
+        requires { depth ≤ length self.now.covered }
+        ensures { AreLeftBut self.now.problem (take depth self.now.covered) (words_for (length self.now.problem.options))
+            result.0.now result.1.now }
     {
-        set(&self.parts, &self.counts, self.words, self.covered.len())
+        let base = self.bases[depth] as usize;
+        let (front, _) = self.covered.split_at(depth);
+        let (_, gone) = front.split_at(base);
+        (set(&self.parts, &self.counts, self.words, base), gone)
+    }
+
+    /// The list of an item among these parts without the options of the items that are gone.
+    #[inline(always)]
+    fn list_in<'a>(&'a self, parts: &'a [Part], gone: &'a [u32], item: u32) -> ItemList<'a>
+        requires some { 0 < item }
+        requires within { item ≤ length self.now.problem.names }
+        requires left { AreLeftBut self.now.problem (before_first (λ x. x == item) self.now.covered)
+            (words_for (length self.now.problem.options)) parts.now gone.now }
+        ensures { IsListOf (list_of self.now.problem self.now.covered item) result }
+    {
+        ItemList {
+            parts,
+            column: row(&self.columns, self.words, (item - 1) as usize),
+            columns: &self.columns,
+            gone,
+        }
+    }
+
+    /// The list of an item: as it was when the item was covered, or as it is.
+    #[inline(always)]
+    fn list(&self, item: u32) -> ItemList<'_>
+        requires some { 0 < item }
+        requires within { item ≤ length self.now.problem.names }
+        ensures { IsListOf (list_of self.now.problem self.now.covered item) result }
+    {
+        let (parts, gone) = self.left_at(time_of(&self.covered, item));
+        self.list_in(parts, gone, item)
+    }
+}
+
+// What is left now.
+impl BitTable {
+    /// The last set that was written, and the items covered since. The lists of all items that aren't covered are in it.
+    #[inline(always)]
+    fn left(&self) -> (&[Part], &[u32])
+        ensures { AreLeftBut self.now.problem self.now.covered (words_for (length self.now.problem.options))
+            result.0.now result.1.now }
+    {
+        self.left_at(self.covered.len())
     }
 
     /// How many of the options left now have an item.
     #[inline(always)]
-    fn len_in(&self, left: &[Part], item: u32) -> u32
-        requires left { AreLeft self.now.problem self.now.covered (words_for (length self.now.problem.options)) left.now }
+    fn len_in(&self, left: &[Part], gone: &[u32], item: u32) -> u32
+        requires left { AreLeftBut self.now.problem self.now.covered (words_for (length self.now.problem.options))
+            left.now gone.now }
         requires some { 0 < item }
         requires within { item ≤ length self.now.problem.names }
         requires uncovered { has self.now.covered item ≡ false }
         ensures { result ≡ length (list_of self.now.problem self.now.covered item) }
     {
-        count_both(left, row(&self.columns, self.words, (item - 1) as usize))
+        self.list_in(left, gone, item).count()
+    }
+}
+
+// How items are covered.
+impl BitTable {
+    /// Covers an item, and leaves its options in the last set.
+    #[inline(always)]
+    fn put(&mut self, item: u32)
+        requires some { 0 < item }
+        requires within { item ≤ length self.old.problem.names }
+        requires uncovered { has self.old.covered item ≡ false }
+        ensures same_problem { self.new.problem ≡ self.old.problem }
+        ensures covered { self.new.covered ≡ self.old.covered ++ item ∷ [] }
+    {
+        let depth = self.covered.len();
+        self.bases[depth + 1] = self.bases[depth];
+        deactivate(&mut self.active, self.primary, item);
+        push_within(&mut self.covered, item);
+    }
+
+    /// Writes the set of the options left now, if it isn't written.
+    #[inline(always)]
+    fn settle(&mut self)
+        ensures same_problem { self.new.problem ≡ self.old.problem }
+        ensures covered { self.new.covered ≡ self.old.covered }
+    {
+        let depth = self.covered.len();
+        let base = self.bases[depth] as usize;
+        write_sets(
+            &mut self.parts,
+            &mut self.counts,
+            &self.columns,
+            self.words,
+            &self.covered,
+            base,
+        );
+        self.bases[depth] = depth as u32;
     }
 }
 
@@ -203,12 +241,12 @@ impl Table for BitTable {
         // A set has a part for each word at most, and there is one set more than items.
         let mut parts = vec![in alloc; none; (items as usize + 1) * words]?;
         fill(&mut parts, words, options);
-        // The other sets are written, and their parts counted, by `cover`.
+        // The other sets are written, and their parts counted, as items are covered.
         let mut counts = vec![in alloc; 0u32; items as usize + 1]?;
         counts[0] = words as u32;
+        let bases = vec![in alloc; 0u32; items as usize + 1]?;
         let mut active = empty_row(alloc, words_for(items))?;
         add_below(&mut active, primary);
-        let times = vec![in alloc; NEVER; items as usize]?;
         let covered = Vec::with_capacity(alloc, items as usize)?;
         Ok(BitTable {
             problem: Snapshot::of(problem),
@@ -218,8 +256,8 @@ impl Table for BitTable {
             columns,
             parts,
             counts,
+            bases,
             active,
-            times,
             covered,
         })
     }
@@ -242,25 +280,24 @@ impl Table for BitTable {
 
     #[inline(always)]
     fn len(&self, item: u32) -> u32 {
-        let (left, column) = self.list(item);
-        count_both(left, column)
+        self.list(item).count()
     }
 
     // By itself: within the walk of a search its loops lack registers, which costs a tenth of the time.
     #[inline(never)]
     fn choose(&self) -> u32 {
         // The walk of every table. But `len` would look up for each item which set its list is in, and `next_item` where it stands.
-        let left = self.left();
+        let (left, gone) = self.left();
         let mut rest = whole(&self.active);
         let mut best = after(take_next(&mut rest, &self.active)).unwrap();
-        let mut least = self.len_in(left, best);
+        let mut least = self.len_in(left, gone, best);
         let mut item = best;
         // None has fewer than no option, and of those with as few the first is asked for.
         while least > 0 {
             let Some(next) = after(take_next(&mut rest, &self.active)) else {
                 return best;
             };
-            let len = self.len_in(left, next);
+            let len = self.len_in(left, gone, next);
             if len < least {
                 best = next;
                 least = len;
@@ -273,13 +310,11 @@ impl Table for BitTable {
     // By itself, as `choose` is.
     #[inline(never)]
     fn first_option(&self, item: u32) -> Option<u32> {
-        let (left, column) = self.list(item);
-        after(first_both(left, column, 0))
+        after(self.list(item).first(0))
     }
 
     fn last_option(&self, item: u32) -> Option<u32> {
-        let (left, column) = self.list(item);
-        after(last_both(left, column, self.options))
+        after(self.list(item).last(self.options))
     }
 
     // By itself, as `choose` is.
@@ -287,36 +322,46 @@ impl Table for BitTable {
     fn next_option(&self, item: u32, option: u32) -> Option<u32> {
         // Where a field is read, what the whole keeps true is known: here, that the option has a number.
         let _primary = &self.primary;
-        let (left, column) = self.list(item);
         // In the column, too, an option has the number below its own.
-        after(next_both(left, column, option))
+        after(self.list(item).first(option))
     }
 
     fn prev_option(&self, item: u32, option: u32) -> Option<u32> {
         // Where a field is read, what the whole keeps true is known: here, that the option has a number.
         let _primary = &self.primary;
-        let (left, column) = self.list(item);
         // The option itself has the number below its own, at which the search ends.
-        after(last_both(left, column, option - 1))
+        after(self.list(item).last(option - 1))
     }
 
     #[inline(always)]
     fn cover(&mut self, item: u32) {
-        let place = (item - 1) as usize;
-        let depth = self.covered.len();
-        let column = row(&self.columns, self.words, place);
-        write_next(&mut self.parts, &mut self.counts, self.words, depth, column);
-        self.times[place] = depth as u32;
-        deactivate(&mut self.active, self.primary, item);
-        push_within(&mut self.covered, item);
+        self.settle();
+        self.put(item);
     }
 
     #[inline(always)]
     fn uncover(&mut self, item: u32) {
-        // With this the last set is let go: what stands past the covered items is room.
+        // With this the set of the options left without the item is let go, if there is one: what stands past the covered items is room.
         self.covered.pop();
-        let place = (item - 1) as usize;
-        self.times[place] = NEVER;
         activate(&mut self.active, self.primary, item);
+    }
+
+    #[inline(always)]
+    fn cover_each(&mut self, items: &[u32]) {
+        for item in items {
+            self.put(*item);
+        }
+    }
+
+    #[inline(always)]
+    fn cover_others(&mut self, option: &[u32], item: u32) {
+        // The order is round the option, as in Algorithm X: it is seen in the list of covered items.
+        let place = place_of(option, item);
+        let (_, after) = option.split_at(place + 1);
+        self.cover_each(after);
+        let (before, _) = option.split_at(place);
+        self.cover_each(before);
+        // Once for all of them, and for the item that was covered before them.
+        self.settle();
     }
 }

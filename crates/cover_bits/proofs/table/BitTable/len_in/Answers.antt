@@ -1,20 +1,17 @@
-use Rattle.std.proofs.Common.{◌-◌, ◌∙◌, arith}
-use Rattle.cover_bits.proofs.TableLemmas.{bits_at, column_fits, told_now}
+use Rattle.std.proofs.Common.{sym, subst, length}
+use Rattle.cover_problem.specs.Covering.{list_of}
+use Rattle.cover_problem.proofs.PartLemmas.{before_none}
+use Rattle.cover_bits.specs.Parts.{words_for}
+use Rattle.cover_bits.specs.Bits.{AreLeftBut}
 use Rattle.cover_bits.proofs.table.BitTable.len_in.Goals as goal
 
-pub row-requires : goal.row-requires
-row-requires c =
-    let f = column_fits (bits_at c.self.view_is c.self.invariant) (c.args.item - 1) (let a = c.requires.some in let b = c.requires.within in omega arith) in
-    rw c.deref.ensures.value f
+pub list_in-requires-clause-left : goal.list_in-requires-clause-left
+list_in-requires-clause-left c =
+    subst (λ x. AreLeftBut c.args.self.now.problem x (words_for (length c.args.self.now.problem.options)) c.args.left.now c.args.gone.now)
+    (sym (before_none c.args.item c.args.self.now.covered c.requires.uncovered)) c.requires.left
 
-pub count_both-requires : goal.count_both-requires
-count_both-requires c =
-    let l = told_now c.self.view_is c.self.invariant c.args.item c.requires.some c.requires.within c.requires.uncovered c.args.left.now c.requires.left
-    c.row.result.now (rw c.deref.ensures.value at c.row.ensures) in
-    record { within = l.within; small = let a = l.few in let b = l.small in omega arith }
+pub count-requires : goal.count-requires
+count-requires c = c.list_in.ensures.sound
 
 pub returns : goal.returns
-returns c =
-    c.count_both.ensures
-    ∙ (told_now c.self.view_is c.self.invariant c.args.item c.requires.some c.requires.within c.requires.uncovered c.args.left.now c.requires.left
-    c.row.result.now (rw c.deref.ensures.value at c.row.ensures)).count
+returns c = c.count.ensures (list_of c.args.self.now.problem c.args.self.now.covered c.args.item) c.list_in.ensures

@@ -7,7 +7,7 @@ use Rattle.cover_problem.proofs.MemberLemmas.{has_here, has_later, has_cases}
 use Rattle.cover_problem.proofs.NumberLemmas.{rises_member}
 use Rattle.cover_bits.specs.declared.lists.ItemList.{ItemList}
 use Rattle.cover_bits.specs.Parts.{in_parts, in_row, in_both, IsFirstFrom, NoneFrom, IsLastBelow, NoneBelow}
-use Rattle.cover_bits.specs.Bits.{IsSound, in_list, IsListOf}
+use Rattle.cover_bits.specs.Bits.{IsReadable, in_list, IsListOf}
 use Rattle.cover_bits.proofs.PartLemmas.{placed_in, placed_at}
 
 -- *the first and the last*
@@ -75,16 +75,16 @@ module _ (both gone : ℕ → Bool) where
 
 -- *within the column*
 
-pub parts_within : (list : ItemList) → IsSound list → (k : ℕ) → in_parts list.parts.now k ≡ true → k < 64 * length list.column.now
+pub parts_within : (list : ItemList) → IsReadable list → (k : ℕ) → in_parts list.parts.now k ≡ true → k < 64 * length list.column.now
 parts_within list s k t = let r = placed_in 0 (length list.column.now) list.parts.now s.placed k t in let q = r.1 in omega arith
 
-pub both_within : (list : ItemList) → IsSound list → (k : ℕ) → in_both list.parts.now list.column.now k ≡ true → k < 64 * length list.column.now
+pub both_within : (list : ItemList) → IsReadable list → (k : ℕ) → in_both list.parts.now list.column.now k ≡ true → k < 64 * length list.column.now
 both_within list s k t = parts_within list s k (and_parts (in_parts list.parts.now k) (in_row list.column.now k) t).0
 
-pub list_within : (list : ItemList) → IsSound list → (k : ℕ) → in_list list k ≡ true → k < 64 * length list.column.now
+pub list_within : (list : ItemList) → IsReadable list → (k : ℕ) → in_list list k ≡ true → k < 64 * length list.column.now
 list_within list s k t = both_within list s k (and_parts (in_both list.parts.now list.column.now k) _ t).0
 
-pub places_within : (list : ItemList) → IsSound list → All (λ part. part.place < length list.column.now) list.parts.now
+pub places_within : (list : ItemList) → IsReadable list → All (λ part. part.place < length list.column.now) list.parts.now
 places_within list s =
     All-from_get_or (λ part. part.place < length list.column.now) list.parts.now (record { word = 0; place = 0 })
     (λ i l. (placed_at 0 (length list.column.now) list.parts.now s.placed i (record { word = 0; place = 0 }) l).0)

@@ -12,7 +12,7 @@ use Rattle.cover_problem.proofs.CoveredLemmas.{covered_push, covered_last, cover
 use Rattle.cover_problem.proofs.MemberLemmas.{has-append}
 use Rattle.cover_bits.specs.declared.sets.Part.{Part}
 use Rattle.cover_bits.specs.Parts.{in_row, in_parts, ArePlaced}
-use Rattle.cover_bits.specs.Bits.{set_at, is_left, AreLeft, AreActive, IsBits, IsWritten}
+use Rattle.cover_bits.specs.Bits.{set_at, is_left, AreLeft, AreActive, IsBits, IsNextSet}
 use Rattle.cover_bits.proofs.LeftLemmas.{left_more}
 use Rattle.cover_bits.proofs.PartLemmas.{placed_in}
 use Rattle.cover_bits.proofs.WriteLemmas.{same_set}
@@ -117,7 +117,7 @@ module _ {p : ProblemValue} {options primary words : ℕ} {columns : List ℕ} {
 
   -- the set of the options left now is written
   pub bits_settled : (base : ℕ) → base ≡ get_or bases (length c) 0 → (parts2 : List Part) (counts2 bases2 : List ℕ) → bases2 ≡ set bases (length c) (length c)
-      → IsWritten words base (length c) columns (drop base c) parts parts2 counts counts2
+      → IsNextSet words base (length c) columns (drop base c) parts parts2 counts counts2
       → IsBits p options primary words columns parts2 counts2 bases2 active c room
   bits_settled base at parts2 counts2 bases2 b w =
       subst (λ (x : List ℕ). IsBits p options primary words columns parts2 counts2 x active c room) (sym b)
@@ -308,10 +308,10 @@ module _ {p : ProblemValue} {options primary words : ℕ} {columns : List ℕ} {
   -- the fields after the set of the options left is written
   pub settled_fields : (depth base : ℕ) → depth ≡ length c → base ≡ get_or bases (length c) 0
       → (ps parts2 : List Part) (ns counts2 cols cs : List ℕ) → ps ≡ parts → ns ≡ counts → cols ≡ columns → cs ≡ c
-      → IsWritten words base (length cs) cols (drop base cs) ps parts2 ns counts2
+      → IsNextSet words base (length cs) cols (drop base cs) ps parts2 ns counts2
       → (plen nlen : ℕ) → plen ≡ length parts → nlen ≡ length counts
       → IsBits p options primary words columns (take plen (parts2 ++ drop (length parts2) parts)) (take nlen (counts2 ++ drop (length counts2) counts)) (set bases depth depth) active c room
   settled_fields depth base d b ps parts2 ns counts2 cols cs x y z q w plen nlen m n =
-      let w2 : IsWritten words base (length c) columns (drop base c) parts parts2 counts counts2 = rw (x, y, z, q) at w in
+      let w2 : IsNextSet words base (length c) columns (drop base c) parts parts2 counts counts2 = rw (x, y, z, q) at w in
       rw (lent plen parts2 parts w2.parts_long m, lent nlen counts2 counts w2.counts_long n)
       (bits_settled h base b parts2 counts2 (set bases depth depth) (ap (λ k. set bases k k) d) w2)

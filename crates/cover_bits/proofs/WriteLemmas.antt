@@ -7,7 +7,7 @@ use Rattle.std.proofs.lemmas.List.{drop-take, take-take, take-append-le, take-ap
 use Rattle.std.proofs.lemmas.List.Folds.{list_any-append}
 use Rattle.cover_bits.specs.declared.sets.Part.{Part}
 use Rattle.cover_bits.specs.Parts.{in_row, in_parts, ArePlaced}
-use Rattle.cover_bits.specs.Bits.{set_at, in_columns, IsWithout, IsWritten}
+use Rattle.cover_bits.specs.Bits.{set_at, in_columns, IsWithout, IsNextSet}
 use Rattle.cover_bits.proofs.BitLemmas.{and-yes}
 
 -- *the sets that stay*
@@ -62,7 +62,7 @@ parts_join xs a b d le l m =
 pub next_written : (words base depth : ℕ) (columns items : List ℕ) (parts : List Part) (counts : List ℕ) (before next next2 parts2 : List Part) (kept : ℕ)
     → base < depth → depth < length counts → ((d : ℕ) → get_or counts d 0 ≤ words) → (depth + 1) * words ≤ length parts
     → before ≡ take (depth * words) parts → next ≡ drop (depth * words) parts → length next2 ≡ length next → parts2 ≡ before ++ next2 → kept ≤ words
-    → IsWithout words columns items (set_at words before counts base) (take kept next2) → IsWritten words base depth columns items parts parts2 counts (set counts depth kept)
+    → IsWithout words columns items (set_at words before counts base) (take kept next2) → IsNextSet words base depth columns items parts parts2 counts (set counts depth kept)
 next_written words base depth columns items parts counts before next next2 parts2 kept less space few room b n long e small w = rw e (record {
   parts_long = length-append before next2 ∙ ap (λ k. length before + k) (long ∙ ap (λ x. length x) n) ∙ whole;
   counts_long = length-set counts depth kept;
@@ -109,11 +109,11 @@ next_written words base depth columns items parts counts before next next2 parts
 -- *sets that are written one after the other*
 
 pub written_none : (words base : ℕ) (columns covered : List ℕ) (parts : List Part) (counts : List ℕ) → ((d : ℕ) → get_or counts d 0 ≤ words) → ArePlaced 0 words (set_at words parts counts base)
-    → IsWritten words base base columns (drop base (take base covered)) parts parts counts counts
+    → IsNextSet words base base columns (drop base (take base covered)) parts parts counts counts
 written_none words base columns covered parts counts few placed =
     let short : length (take base covered) ≡ min base (length covered) = length-take base covered in
     let none : drop base (take base covered) ≡ [] = drop_all base (take base covered) (omega arith) in
-    subst (λ xs. IsWritten words base base columns xs parts parts counts counts) (sym none) (record {
+    subst (λ xs. IsNextSet words base base columns xs parts parts counts counts) (sym none) (record {
       parts_long = refl;
       counts_long = refl;
       few = few;
@@ -123,8 +123,8 @@ written_none words base columns covered parts counts few placed =
     })
 
 pub written_more : (words a b d : ℕ) (columns covered : List ℕ) (parts parts2 parts3 : List Part) (counts counts2 counts3 : List ℕ) → a ≤ b → b ≤ d → d ≤ length covered
-    → IsWritten words a b columns (drop a (take b covered)) parts parts2 counts counts2 → IsWritten words b d columns (drop b (take d covered)) parts2 parts3 counts2 counts3
-    → IsWritten words a d columns (drop a (take d covered)) parts parts3 counts counts3
+    → IsNextSet words a b columns (drop a (take b covered)) parts parts2 counts counts2 → IsNextSet words b d columns (drop b (take d covered)) parts2 parts3 counts2 counts3
+    → IsNextSet words a d columns (drop a (take d covered)) parts parts3 counts counts3
 written_more words a b d columns covered parts parts2 parts3 counts counts2 counts3 le l m v w = record {
   parts_long = w.parts_long ∙ v.parts_long;
   counts_long = w.counts_long ∙ v.counts_long;
@@ -152,8 +152,8 @@ written_more words a b d columns covered parts parts2 parts3 counts counts2 coun
     by false y z = refl
 
 pub written_done : (words a b : ℕ) (columns covered : List ℕ) (parts parts2 : List Part) (counts counts2 : List ℕ) → b ≤ length covered → length covered ≤ b
-    → IsWritten words a b columns (drop a (take b covered)) parts parts2 counts counts2 → IsWritten words a (length covered) columns (drop a covered) parts parts2 counts counts2
+    → IsNextSet words a b columns (drop a (take b covered)) parts parts2 counts counts2 → IsNextSet words a (length covered) columns (drop a covered) parts parts2 counts counts2
 written_done words a b columns covered parts parts2 counts counts2 l m w =
     let e : b ≡ length covered = omega arith in
-    subst (λ d. IsWritten words a d columns (drop a covered) parts parts2 counts counts2) e
-    (subst (λ xs. IsWritten words a b columns (drop a xs) parts parts2 counts counts2) (take_all b covered m) w)
+    subst (λ d. IsNextSet words a d columns (drop a covered) parts parts2 counts counts2) e
+    (subst (λ xs. IsNextSet words a b columns (drop a xs) parts parts2 counts counts2) (take_all b covered m) w)

@@ -86,7 +86,7 @@ pub record IsWithout (words : ℕ) (columns items : List ℕ) (set next : List P
   pub are : (k : ℕ) → k < 64 * words → in_parts next k ≡ (in_parts set k && not (in_columns words columns items k))
 
 -- the set at `depth` is written: the options of the set at `base` that have none of these items; the sets up to `base` stay
-pub record IsWritten (words base depth : ℕ) (columns items : List ℕ) (parts parts2 : List Part) (counts counts2 : List ℕ)
+pub record IsNextSet (words base depth : ℕ) (columns items : List ℕ) (parts parts2 : List Part) (counts counts2 : List ℕ)
     : Type 0 where
   pub parts_long : length parts2 ≡ length parts
   pub counts_long : length counts2 ≡ length counts
@@ -96,7 +96,7 @@ pub record IsWritten (words base depth : ℕ) (columns items : List ℕ) (parts 
   pub before : take ((base + 1) * words) parts2 ≡ take ((base + 1) * words) parts
 
 -- the parts lie within the column, and the items that are gone have columns
-pub record IsSound (list : ItemList) : Type 0 where
+pub record IsReadable (list : ItemList) : Type 0 where
   pub placed : ArePlaced 0 (length list.column.now) list.parts.now
   pub few : length list.parts.now ≤ length list.column.now
   pub small : 64 * length list.column.now < 2 ^ 32
@@ -109,7 +109,7 @@ in_list list k =
 
 -- it is the list of these options
 pub record IsListOf (xs : List ℕ) (list : ItemList) : Type 0 where
-  pub sound : IsSound list
+  pub sound : IsReadable list
   pub rises : RisesFrom 1 xs
   pub are : (k : ℕ) → in_list list k ≡ has xs (k + 1)
   pub count : list.gone.now ≡ [] → ones_of_both list.parts.now list.column.now ≡ length xs

@@ -3,7 +3,7 @@
 ghost use Rattle.std.specs.Prelude.{◌≡◌, ◌<◌, ◌*◌, ℕ, List, length, IfSome, None};
 ghost use Rattle.cover_bits.specs.Parts.{IsFirstFrom, NoneFrom, IsLastBelow, NoneBelow};
 ghost use Rattle.cover_bits.specs.Bits as bits;
-ghost use Rattle.cover_bits.specs.Bits.{IsSound, in_list, IsListOf};
+ghost use Rattle.cover_bits.specs.Bits.{IsReadable, in_list, IsListOf};
 
 use crate::sets::{Part, count_both, has, last_both, next_both};
 
@@ -23,7 +23,7 @@ impl ItemList<'_> {
     /// Whether an option has one of the items that were covered since.
     #[inline(always)]
     fn is_gone(&self, option: u32) -> bool
-        requires sound { IsSound self.now }
+        requires sound { IsReadable self.now }
         requires within { option < 64 * length self.now.column.now }
         ensures { result ≡ bits.in_columns (length self.now.column.now) self.now.columns.now self.now.gone.now option }
     {
@@ -37,7 +37,7 @@ impl ItemList<'_> {
     /// The first option from one on.
     #[inline(always)]
     pub(crate) fn first(&self, start: u32) -> Option<u32>
-        requires { IsSound self.now }
+        requires { IsReadable self.now }
         ensures some { IfSome result (λ k. IsFirstFrom (in_list self.now) start k) }
         ensures none { result ≡ None → NoneFrom (in_list self.now) start }
     {
@@ -53,7 +53,7 @@ impl ItemList<'_> {
 
     /// The last option below one.
     pub(crate) fn last(&self, end: u32) -> Option<u32>
-        requires { IsSound self.now }
+        requires { IsReadable self.now }
         ensures some { IfSome result (λ k. IsLastBelow (in_list self.now) end k) }
         ensures none { result ≡ None → NoneBelow (in_list self.now) end }
     {
@@ -70,7 +70,7 @@ impl ItemList<'_> {
     /// How many options there are.
     #[inline(always)]
     pub(crate) fn count(&self) -> u32
-        requires { IsSound self.now }
+        requires { IsReadable self.now }
         ensures { (xs : List ℕ) → IsListOf xs self.now → result ≡ length xs }
     {
         if self.gone.is_empty() {
@@ -83,7 +83,7 @@ impl ItemList<'_> {
     #[cold]
     #[inline(never)]
     fn count_each(&self) -> u32
-        requires { IsSound self.now }
+        requires { IsReadable self.now }
         ensures { (xs : List ℕ) → IsListOf xs self.now → result ≡ length xs }
     {
         let mut count = 0;

@@ -3,7 +3,7 @@ ghost use Rattle.std.specs.Prelude.{◌≡◌, ◌<◌, ◌≤◌, ◌+◌, ◌-
 ghost use Rattle.std.specs.List.{All};
 ghost use Rattle.cover_bits.specs.Parts.{is_some_part, ArePlaced};
 ghost use Rattle.cover_bits.specs.Bits as bits;
-ghost use Rattle.cover_bits.specs.Bits.{HasColumn, IsWithout, IsWritten};
+ghost use Rattle.cover_bits.specs.Bits.{HasColumn, IsWithout, IsNextSet};
 
 use crate::sets::Part;
 
@@ -116,7 +116,7 @@ fn write_next(
     requires within { (base + length items.now + 1) * words ≤ length parts.old }
     requires small { words < 2 ^ 32 }
     requires placed { ArePlaced 0 words (bits.set_at words parts.old counts.old base) }
-    ensures { IsWritten words base (base + length items.now) columns.now items.now parts.old parts.new counts.old counts.new }
+    ensures { IsNextSet words base (base + length items.now) columns.now items.now parts.old parts.new counts.old counts.new }
 {
     // Parted, so that one set is read while the next is written.
     let depth = base + items.len();
@@ -142,7 +142,7 @@ pub(crate) fn write_sets(
     requires within { (length covered.now + 1) * words ≤ length parts.old }
     requires small { words < 2 ^ 32 }
     requires placed { ArePlaced 0 words (bits.set_at words parts.old counts.old base) }
-    ensures { IsWritten words base (length covered.now) columns.now (drop base covered.now) parts.old parts.new counts.old counts.new }
+    ensures { IsNextSet words base (length covered.now) columns.now (drop base covered.now) parts.old parts.new counts.old counts.new }
 {
     let mut base = base;
     // Mostly once. An option with more items takes more passes, each over what the one before it left.

@@ -44,12 +44,6 @@ all_part P xs b d le all i e l =
     let here : get_or (drop b (take d xs)) i e ≡ get_or xs (b + i) e = get_or-drop b (take d xs) i e ∙ get_or-take d xs (b + i) e (omega arith) in
     subst P (sym here) (all (b + i) e (omega arith))
 
-pub part_long : (xs : List ℕ) (b d : ℕ) → b ≤ d → d ≤ length xs → b + length (drop b (take d xs)) ≡ d
-part_long xs b d le l =
-    let n : length (drop b (take d xs)) ≡ length (take d xs) - b = length-drop b (take d xs) in
-    let m : length (take d xs) ≡ min d (length xs) = length-take d xs in
-    omega arith
-
 parts_join : (xs : List ℕ) (a b d : ℕ) → a ≤ b → b ≤ d → d ≤ length xs → drop a (take b xs) ++ drop b (take d xs) ≡ drop a (take d xs)
 parts_join xs a b d le l m =
     let long : length (take b xs) ≡ min b (length xs) = length-take b xs in

@@ -25,7 +25,8 @@ impl ItemList<'_> {
     fn is_gone(&self, option: u32) -> bool
         requires sound { IsReadable self.now }
         requires within { option < 64 * length self.now.column.now }
-        ensures { result ≡ bits.in_columns (length self.now.column.now) self.now.columns.now self.now.gone.now option }
+        ensures { result ≡ bits.in_columns (length self.now.column.now) self.now.columns.now
+            self.now.gone.now option }
     {
         let bits = 64 * self.column.len();
         self.gone.iter().any(|item| has(
@@ -76,7 +77,9 @@ impl ItemList<'_> {
         if self.gone.is_empty() {
             return count_both(self.parts, self.column);
         }
-        self.count_each()
+        // A copy is handed on: so the list itself stays in registers where a search counts.
+        let list = *self;
+        list.count_each()
     }
 
     /// How many options there are, gone through one by one.

@@ -99,7 +99,8 @@ fn without(into: &mut [Part], parts: &[Part], columns: &[u64], words: usize, ite
 }
 
 /// Writes the set at a place: what the one at `base`, which stands before it, has without the options of these items.
-#[inline(always)]
+// By itself, as `choose` is: the pass wants a register for each column.
+#[inline(never)]
 fn write_next(
     parts: &mut [Part],
     counts: &mut [u32],
@@ -116,7 +117,8 @@ fn write_next(
     requires within { (base + length items.now + 1) * words ≤ length parts.old }
     requires small { words < 2 ^ 32 }
     requires placed { ArePlaced 0 words (bits.set_at words parts.old counts.old base) }
-    ensures { IsNextSet words base (base + length items.now) columns.now items.now parts.old parts.new counts.old counts.new }
+    ensures { IsNextSet words base (base + length items.now) columns.now items.now
+        parts.old parts.new counts.old counts.new }
 {
     // Parted, so that one set is read while the next is written.
     let depth = base + items.len();
@@ -142,7 +144,8 @@ pub(crate) fn write_sets(
     requires within { (length covered.now + 1) * words ≤ length parts.old }
     requires small { words < 2 ^ 32 }
     requires placed { ArePlaced 0 words (bits.set_at words parts.old counts.old base) }
-    ensures { IsNextSet words base (length covered.now) columns.now (drop base covered.now) parts.old parts.new counts.old counts.new }
+    ensures { IsNextSet words base (length covered.now) columns.now (drop base covered.now)
+        parts.old parts.new counts.old counts.new }
 {
     let mut base = base;
     // Mostly once. An option with more items takes more passes, each over what the one before it left.

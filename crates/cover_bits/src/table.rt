@@ -125,8 +125,8 @@ impl BitTable {
     #[inline(always)]
     fn left_at(&self, depth: usize) -> (&[Part], &[u32])
         requires { depth ≤ length self.now.covered }
-        ensures { AreLeftBut self.now.problem (take depth self.now.covered) (words_for (length self.now.problem.options))
-            result.0.now result.1.now }
+        ensures { AreLeftBut self.now.problem (take depth self.now.covered)
+            (words_for (length self.now.problem.options)) result.0.now result.1.now }
     {
         let base = self.bases[depth] as usize;
         let (front, _) = self.covered.split_at(depth);
@@ -168,8 +168,8 @@ impl BitTable {
     /// The last set that was written, and the items covered since. The lists of all items that aren't covered are in it.
     #[inline(always)]
     fn left(&self) -> (&[Part], &[u32])
-        ensures { AreLeftBut self.now.problem self.now.covered (words_for (length self.now.problem.options))
-            result.0.now result.1.now }
+        ensures { AreLeftBut self.now.problem self.now.covered
+            (words_for (length self.now.problem.options)) result.0.now result.1.now }
     {
         self.left_at(self.covered.len())
     }
@@ -177,8 +177,8 @@ impl BitTable {
     /// How many of the options left now have an item.
     #[inline(always)]
     fn len_in(&self, left: &[Part], gone: &[u32], item: u32) -> u32
-        requires left { AreLeftBut self.now.problem self.now.covered (words_for (length self.now.problem.options))
-            left.now gone.now }
+        requires left { AreLeftBut self.now.problem self.now.covered
+            (words_for (length self.now.problem.options)) left.now gone.now }
         requires some { 0 < item }
         requires within { item ≤ length self.now.problem.names }
         requires uncovered { has self.now.covered item ≡ false }

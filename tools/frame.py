@@ -9,6 +9,7 @@ import contextlib
 import os
 import re
 import sys
+import time
 
 VERSION = "0.1.0"
 TOP = os.path.dirname(os.path.dirname(os.path.realpath(__file__)))
@@ -41,17 +42,48 @@ def naming(path):
         raise
 
 
+@contextlib.contextmanager
+def opened(path):
+    """A file to be read, byte by byte; standard input where the path is `-`."""
+    if path != "-":
+        with naming(path), open(path, "rb") as file:
+            yield file
+        return
+    if sys.stdin is None:
+        stop("standard input is closed")
+    if sys.stdin.isatty():
+        print("%s: reading from the terminal, up to Ctrl-D" % NAME, file=sys.stderr)
+    with naming("standard input"):
+        yield sys.stdin.buffer
+
+
 def read_file(path):
     """The text of a file, a character for each byte; of standard input where the path is `-`."""
-    if path == "-":
-        if sys.stdin is None:
-            stop("standard input is closed")
-        if sys.stdin.isatty():
-            print("%s: reading from the terminal, up to Ctrl-D" % NAME, file=sys.stderr)
-        with naming("standard input"):
-            return sys.stdin.buffer.read().decode("latin-1")
-    with naming(path), open(path, "rb") as file:
+    with opened(path) as file:
         return file.read().decode("latin-1")
+
+
+def read_lines(path):
+    """The same line by line, each without its end; no more than a line is kept."""
+    with opened(path) as file:
+        for line in file:
+            line = line[:-1] if line.endswith(b"\n") else line
+            yield (line[:-1] if line.endswith(b"\r") else line).decode("latin-1")
+
+
+class Progress:
+    """Tells somebody at a terminal how far a script is, once it was at work for ten seconds, and then every ten seconds."""
+
+    def __init__(self, what):
+        self.what, self.every = what, float(os.environ.get("POLYLAB_PATIENCE") or 10)
+        self.next = time.monotonic() + self.every
+
+    def tell(self, count):
+        """So many are done."""
+        if time.monotonic() >= self.next:
+            self.next += self.every
+            if sys.stderr is not None and sys.stderr.isatty():
+                print("%s: %d %s so far" % (NAME, count, self.what), file=sys.stderr, flush=True)
 
 
 def write_whole(path, text):

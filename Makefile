@@ -6,7 +6,8 @@ ZSH_FUNCTIONS = $(PREFIX)/share/zsh/site-functions
 COMMANDS = answer check_packings convert count_packings draw_packings explain join one_of_each page parts session slices slurm_array unique
 # What these read from beside them.
 PARTS = burrtools.py cells.py classes.py colours.py copies.py covers.py frame.py numbering.py packings.py puzzles.py searched.py snapshots.py solids.py texts.py \
-	page.css page_common.js page_packings.js page_search.js page_solid.js
+	page.css page_common.js page_packings.js page_search.js page_solid.js \
+	guesses.py
 SHARE = $(DESTDIR)$(PREFIX)/share
 LIB = $(DESTDIR)$(PREFIX)/lib/polylab
 # What behind the gate is --all-there: a crate whose tests aren't built is then a fault, and else skipped.

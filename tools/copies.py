@@ -5,7 +5,7 @@ from array import array
 from collections import OrderedDict
 from itertools import islice
 
-from cells import shifted, turned
+from cells import least_corner, shifted, turned
 from frame import stop
 from numbering import Numbering, sum_of
 from packings import Packing
@@ -14,14 +14,14 @@ from packings import Packing
 KEPT = 1000
 
 
-def coverings(cells, shapes, symbols):
+def coverings(cells, shapes, symbols, required):
     """Each way to lay all of some cells, each with its symbol, with these shapes, moved, as a list of sets of cells whose least cells rise. The
-    symbols show the copies in turn."""
+    symbols show the copies in turn, and each copy fills a cell that has to be filled."""
     laid, left, trying = [], set(cells), []
     while True:
         if left:
             turn = symbols[len(laid) % len(symbols)]
-            trying.append(iter(puts(left, {place for place in left if cells[place] == turn}, shapes)))
+            trying.append(iter(puts(left, {place for place in left if cells[place] == turn}, shapes, required)))
         else:
             yield list(laid)
         while trying:
@@ -37,11 +37,11 @@ def coverings(cells, shapes, symbols):
             return
 
 
-def puts(left, own, shapes):
-    """The ways to lay the least of the cells that are left on cells of its own symbol."""
+def puts(left, own, shapes, required):
+    """The ways to lay the least of the cells that are left on cells of its own symbol, one of which has to be filled."""
     first = min(left)
     laid = (set(shifted(shape, shape[0], first)) for shape in shapes)
-    return [put for put in laid if put <= own]
+    return [put for put in laid if put <= own and not required.isdisjoint(put)]
 
 
 def ways_of(parts):
@@ -62,6 +62,7 @@ class Copies:
     def __init__(self, puzzle=None):
         self.pieces = [piece for piece in puzzle.pieces if piece.need == "any"] if puzzle else []
         self.shapes = [sorted(turned(piece.cells, piece.mirror)) for piece in self.pieces]
+        self.required = {*shifted(puzzle.required, least_corner(puzzle.region), (0, 0, 0))} if puzzle else set()
         # For each look how often it came; and of those that came last what finds their next way.
         self.looks, self.times, self.ways = Numbering(), array("I"), OrderedDict()
 
@@ -86,5 +87,5 @@ class Copies:
 
     def ways_to_lay(self, marks):
         """Each way to tell the copies of a packing apart."""
-        return ways_of([({place: mark for place, mark in marks.items() if mark in piece.symbols}, shape, piece.symbols)
+        return ways_of([({place: mark for place, mark in marks.items() if mark in piece.symbols}, shape, piece.symbols, self.required)
                         for piece, shape in zip(self.pieces, self.shapes)])

@@ -5,7 +5,7 @@ ZSH_FUNCTIONS = $(PREFIX)/share/zsh/site-functions
 # The scripts that are installed, each as the command polylab-NAME; those of dev/ are for this checkout.
 COMMANDS = answer check_packings convert count_packings draw_packings explain invent join one_of_each page parts pieces run session slices slurm_array unique
 # What these read from beside them.
-PARTS = burrtools.py cells.py classes.py colours.py copies.py covers.py drawing.py frame.py numbering.py packings.py puzzles.py searched.py snapshots.py solids.py texts.py times.py \
+PARTS = burrtools.py cells.py classes.py colours.py copies.py covers.py drawing.py frame.py numbering.py packings.py polylab.py puzzles.py searched.py snapshots.py solids.py texts.py times.py \
 	page.css page_common.js page_packings.js page_search.js page_solid.js \
 	guesses.py
 SHARE = $(DESTDIR)$(PREFIX)/share

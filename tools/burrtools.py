@@ -7,7 +7,7 @@ import re
 import xml.parsers.expat
 import zlib
 
-from cells import moved, turned
+from cells import moved, so_many, turned
 from frame import escaped, stop
 from puzzles import LETTERS
 
@@ -148,7 +148,7 @@ class Shape:
             stop("shape %s is %s, and has %d cells, where the program takes %d" % (self.name, what, drawn, most))
         marks = re.findall(r"[#+_]\d*|\S", text[: 8 * GRID])
         if len(marks) != wide * high * deep:
-            stop("shape %s has %d cells drawn, and is to have %d x %d x %d" % (self.name, len(marks), wide, high, deep))
+            stop("shape %s has %s drawn, and is to have %d x %d x %d" % (self.name, so_many(len(marks)), wide, high, deep))
         strange = [mark for mark in marks if mark[0] not in "#+_"]
         if strange:
             stop("shape %s has a mark `%s`, which is none of `#`, `+` and `_`" % (self.name, escaped(strange[0])))

@@ -108,6 +108,17 @@ def whole(least, most):
     return read
 
 
+def decimal(least, most):
+    """Reads a number with or without a point, from least to most."""
+
+    def read(word):
+        if not (re.fullmatch(r"[0-9]{1,9}(\.[0-9]{1,9})?", word) and least <= float(word) <= most):
+            raise ValueError("a number from %g to %g has to stand here" % (least, most))
+        return float(word) if "." in word else int(word)
+
+    return read
+
+
 def some_text(word):
     """Reads a word that may not be empty."""
     if not word:

@@ -62,7 +62,7 @@ open_file() {
     fi
 }
 
-# Tells somebody at a terminal, once, that a search is at work. $$ is the program, or the script that waits for it.
+# Tells somebody at a terminal that a search is at work, and then how far it is. $$ is the program, or the script that waits for it.
 tell_later() {
     waited=0
     while [ "$waited" -lt "${POLYLAB_PATIENCE:-10}" ]; do
@@ -75,6 +75,14 @@ tell_later() {
         *) first='solve --first N' ;;
     esac
     echo "polylab: at work for $waited seconds, and writes once all is found; $slices FILE counts and tells what is left, $first stops early" >&2
+    # The same search, of a file and on a processor that is free, tells how far this one is.
+    if [ -f /dev/fd/3 ] && [ "$(nproc 2> /dev/null || echo 1)" -gt 1 ]; then
+        case $1 in
+            cover) set -- --cover ;;
+            *) set -- ;;
+        esac
+        POLYLAB=$program exec nice -n 19 "$watcher" "$@" --watch $$ /dev/fd/3 3<&3
+    fi
 }
 
 # Runs the program, and names the command that tells more where it refuses the text.
@@ -125,7 +133,7 @@ start() {
     fi
     if [ -t 2 ] && [ ! -t 0 ]; then
         case ${1:-} in
-            solve | count | cover) tell_later "$1" < /dev/null > /dev/null & ;;
+            solve | count | cover) tell_later "$1" 3<&0 < /dev/null > /dev/null & ;;
         esac
     fi
     case ${1:-} in

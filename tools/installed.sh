@@ -8,7 +8,7 @@
 set -eu
 self=$(readlink -f "$0")
 lib=$(dirname "$(dirname "$self")")/lib/polylab
-program=$lib/polylab stamp=$lib/built slices=polylab-slices explain=$(dirname "$self")/polylab-explain
+program=$lib/polylab stamp=$lib/built slices=polylab-slices watcher=$(dirname "$self")/polylab-slices explain=$(dirname "$self")/polylab-explain
 # shellcheck source=tools/given.sh
 . "$lib/given.sh"
 start "$@"

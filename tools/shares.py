@@ -103,10 +103,11 @@ class Walk:
 
 
 class Estimate:
-    """The share of a search that is done, by its problem: of the chosen item's options at each level, those left of the path."""
+    """The share of a search that is done, by its problem: of the chosen item's options at each level, those left of the path. `spent` is for the caller,
+    who says how long a look may take."""
 
     def __init__(self, problem):
-        self.walk, self.past = Walk(problem), []
+        self.walk, self.past, self.spent = Walk(problem), [], 0.0
 
     def share(self, state, until=None):
         """From 0 to 1; state is the words of a snapshot's line `state`. None where it isn't known by that time of this process, or the state isn't

@@ -86,24 +86,14 @@ class Progress:
                 print("%s: %d %s so far" % (NAME, count, self.what), file=sys.stderr, flush=True)
 
 
-def write_whole(path, text):
-    """Writes a file whole: to a name beside it first, which is then renamed. Where that fails, what was there stays."""
-    new = path + ".new"
-    try:
-        with naming(new), open(new, "w", encoding="latin-1", newline="") as file:
-            file.write(text)
-            file.flush()
-            os.fsync(file.fileno())
-        os.replace(new, path)
-    except BaseException:
-        with contextlib.suppress(OSError):
-            os.remove(new)
-        raise
+def escaped(text):
+    """Text as it can be shown: in place of each character that isn't printed, as those that control a terminal, stands its number."""
+    return "".join(mark if mark.isprintable() else ascii(mark)[1:-1] for mark in text)
 
 
 def wrong(word, what):
     """Ends the script for a word of its command line."""
-    print("%s: %s: %s (%s --help tells the words)" % (NAME, word, what, NAME), file=sys.stderr)
+    print("%s: %s: %s (%s --help tells the words)" % (NAME, escaped(word), what, NAME), file=sys.stderr)
     sys.exit(2)
 
 
@@ -184,9 +174,9 @@ def run(main, doc, names=("[FILE]",), flags=(), values=None):
     except KeyboardInterrupt:
         status = "%s: stopped" % NAME
     except Stop as why:
-        status = "%s: %s" % (NAME, installed_words(str(why)))
+        status = "%s: %s" % (NAME, "\n".join(map(escaped, installed_words(str(why)).split("\n"))))
     except OSError as error:
-        status = "%s: %s: %s" % (NAME, error.filename or "standard output", error.strerror or error)
+        status = "%s: %s: %s" % (NAME, escaped(str(error.filename or "standard output")), error.strerror or error)
     except MemoryError:
         status = "%s: there is not enough memory" % NAME
     except (ValueError, LookupError) as error:

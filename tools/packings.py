@@ -2,8 +2,12 @@
 PROVED; it trusts that what it reads is what `solve` printed."""
 
 import functools
+import string
 
-from frame import Progress, Stop, read_lines
+from frame import Progress, Stop, escaped, read_lines
+
+# What is drawn: names of pieces, `_` for an empty cell, and `.` outside the region.
+MARKS = {*string.ascii_letters, *string.digits, *"._"}
 
 
 class Packing:
@@ -78,6 +82,10 @@ def packing(number, rows):
     if size is None:
         raise Stop("packing %d isn't drawn as a box" % number)
     marks = "".join(["".join(row) for row in rows])
+    strange = set(marks) - MARKS
+    if strange:
+        # (a mark becomes a part of pictures and of names of files)
+        raise Stop("packing %d has the mark `%s`, which is no name of a piece" % (number, escaped(min(strange))))
     if not marks.strip("."):
         raise Stop("packing %d has no cell" % number)
     return Packing(number, size, marks)

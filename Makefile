@@ -3,10 +3,11 @@
 PREFIX = /usr/local
 ZSH_FUNCTIONS = $(PREFIX)/share/zsh/site-functions
 # The scripts that are installed, each as the command polylab-NAME; those of dev/ are for this checkout.
-COMMANDS = answer check_packings convert count_packings draw_packings explain join one_of_each page parts session slices slurm_array unique
+COMMANDS = answer check_packings convert count_packings draw_packings explain invent join one_of_each page parts pieces run session slices slurm_array unique
 # What these read from beside them.
-PARTS = burrtools.py cells.py classes.py colours.py copies.py covers.py frame.py packings.py puzzles.py searched.py snapshots.py solids.py texts.py \
-	page.css page_common.js page_packings.js page_search.js page_solid.js
+PARTS = burrtools.py cells.py classes.py colours.py copies.py covers.py drawing.py frame.py numbering.py packings.py polylab.py puzzles.py searched.py snapshots.py solids.py texts.py times.py \
+	page.css page_common.js page_packings.js page_search.js page_solid.js \
+	files.py guesses.py shares.py
 SHARE = $(DESTDIR)$(PREFIX)/share
 LIB = $(DESTDIR)$(PREFIX)/lib/polylab
 # What behind the gate is --all-there: a crate whose tests aren't built is then a fault, and else skipped.
@@ -165,10 +166,12 @@ check-tools: build
 	@dev/check_tools
 	@dev/check_explain
 	@dev/check_convert
+	@dev/check_pieces
 
 # Counts in parts and in slices add up, also after a kill and an interrupt; spoilt folders of parts are refused: a minute.
 check-parts: build
 	@dev/check_parts
+	@dev/check_runs
 
 # Pages of packings and of sessions, in headless Chromium where it is here, show what they should: minutes.
 check-page: build

@@ -2,7 +2,7 @@
 # shellcheck shell=bash
 set -euo pipefail
 own=bench/$(basename "$0")
-cd "$(dirname "$0")/.."
+CDPATH='' cd "$(dirname "$0")/.."
 
 # Prints a word that is a number from 1 on. Any other ends the script, by its usage: the words that it takes, and what the number is called.
 number() {

@@ -4,11 +4,11 @@ _polylab() {
     local jobs='solve count options cover debug resume'
     local choices="" given k
     if [ "$COMP_CWORD" -eq 1 ]; then
-        choices="$jobs help --help --version"
+        choices="$jobs explain help --help --version"
     else
         case ${COMP_WORDS[1]} in
             count) choices='--workers --table --classes --help' ;;
-            debug) choices='--cover --help' ;;
+            debug | explain) choices='--cover --help' ;;
             resume) choices='--table --steps --list --help' ;;
             solve | cover) choices='--workers --first --table --help' ;;
             options) choices='--help' ;;

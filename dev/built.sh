@@ -31,12 +31,13 @@ is_current() {
     [ -x "$program" ] && [ -r "$stamp" ] && [ "$(wanted "$(sources)")" = "$(sed -n 1,2p "$stamp")" ]
 }
 
-# Writes of which sources the program is: those with this checksum.
+# Writes of which sources the program is, those with this checksum, and how it is known that they were proved.
 mark() {
     {
         wanted "$1"
         echo "kit $(rt version)"
         echo "revision $(git -C "$here" describe --always --dirty --abbrev=40 2> /dev/null || echo unknown)"
+        echo "proved $2"
     } > "$stamp.new"
     mv "$stamp.new" "$stamp"
 }

@@ -3,7 +3,7 @@
 # shellcheck shell=sh
 set -eu
 check=$(basename "$0")
-cd "$(dirname "$0")/.."
+CDPATH='' cd "$(dirname "$0")/.."
 work=$(mktemp -d)
 trap 'rm -rf "$work"' EXIT
 

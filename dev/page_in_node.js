@@ -1,9 +1,9 @@
 "use strict";
 // Runs the scripts of a page that tools/page made, over a stand-in for a browser's page, and prints what they note of what they drew. NOT PROVED.
 //
-//     node dev/page_in_node.js PAGE.html [#WHERE]
+//     node dev/page_in_node.js PAGE.html [#WHERE [EXPRESSION ..]]
 //
-// What is drawn can't be seen so, but what is reckoned of it is the page's own, and a name that no script has ends the run with a status above
+// With expressions `values` are what each is in a page of its own. What is drawn can't be seen so, but what is reckoned of it is the page's own, and a name that no script has ends the run with a status above
 // 0. dev/check_scripts calls this, which needs no browser; dev/check_page looks at the pictures in one.
 
 const fs = require("fs"), vm = require("vm");
@@ -35,7 +35,7 @@ class Observer {
   observe() {}
 }
 
-function run(text, hash) {
+function run(text, hash, expression) {
   const script = text.split("<script>")[1].split("</script>")[0], hasBoard = /"board":\{/.test(text);
   const elements = new Map(), document = standIn();
   document.body = standIn();
@@ -46,9 +46,12 @@ function run(text, hash) {
     return elements.get(id);
   };
   document.getElementById("through").value = "all";
-  vm.runInNewContext(script, {document, window: {devicePixelRatio: 1}, location: {hash}, URLSearchParams, ImageData: Points, ResizeObserver: Observer,
-    requestAnimationFrame: then => then(), setTimeout: () => 0, clearTimeout: () => {}}, {filename: "page.js"});
-  return document.body.dataset;
+  const context = vm.createContext({document, window: {devicePixelRatio: 1}, location: {hash}, URLSearchParams, ImageData: Points, ResizeObserver: Observer,
+    requestAnimationFrame: then => then(), setTimeout: () => 0, clearTimeout: () => {}});
+  vm.runInContext(script, context, {filename: "page.js"});
+  return expression ? vm.runInContext(expression, context, {filename: "expression"}) : document.body.dataset;
 }
 
-console.log(JSON.stringify(run(fs.readFileSync(process.argv[2], "utf8"), process.argv[3] || "")));
+const [path, hash = "", ...expressions] = process.argv.slice(2), text = fs.readFileSync(path, "utf8"), noted = {...run(text, hash)};
+if (expressions.length) noted.values = expressions.map(it => run(text, hash, it));
+console.log(JSON.stringify(noted));

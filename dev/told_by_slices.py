@@ -4,6 +4,7 @@ Python, NOT PROVED; it trusts nothing."""
 import importlib.machinery
 import importlib.util
 import os
+import time
 
 from tree import TOP
 
@@ -23,7 +24,33 @@ SPANS = {
 PROBLEM = ["items a b", "option a", "option b", "option a b"]
 DONE = {"X1 -": 0, "X5 1": 0, "X2 - 1": 0, "X5 2 1": 0, "X6 2 1": 0.5, "X5 3": 0.5, "X6 3": 1, "X5 past": 1, "X8 -": 1}
 
+# So many items of which each has one option: at each level one is chosen, and nothing is done before the path is whole. And so many of which each has
+# two, where the second of the first item's leaves a half done.
+DEEP = 5000
+FORCED = ["items " + " ".join("i%d" % at for at in range(DEEP)), *("option i%d" % at for at in range(DEEP))]
+DOUBLE = [FORCED[0], *("option i%d" % (at // 2) for at in range(2 * DEEP))]
+
+
+def deep():
+    """A path of many levels is walked in a moment; where there is no time for it, later calls go on from there."""
+    began, path = time.process_time(), " ".join(map(str, range(1, DEEP + 1)))
+    estimate = slices.Estimate(FORCED)
+    for state, share in (("X2 - " + path, 0), ("X8 - " + path, 1), ("X5 past " + path.rpartition(" ")[0], 1)):
+        assert estimate.share(state.split()) == share, state[:20]
+    estimate, calls = slices.Estimate(DOUBLE), 0
+    state = ["X2", "-", "2", *(str(at) for at in range(3, 2 * DEEP, 2))]
+    while (share := estimate.share(state, time.process_time() + 0.004)) is None:
+        calls += 1
+    assert calls and share == 0.5, (calls, share)
+    assert estimate.share(["X2", "-", "1"]) == 0 and estimate.share(["X5", "2"]) == 0.5
+    # (the sum over all levels grew with their square before: this took minutes)
+    assert time.process_time() - began < 5, time.process_time() - began
+    # What isn't of the problem has no share, and does no harm.
+    assert estimate.share(["X2", "-", "77777"]) is None and estimate.share(state) is None
+
+
 if __name__ == "__main__":
+    deep()
     for share, told in SHARES.items():
         assert slices.share_told(share) == told, share
     for seconds, told in SPANS.items():

@@ -1,32 +1,123 @@
-"""Problems in the files of BurrTools, for tools/convert. Plain Python, NOT PROVED; it trusts what it reads."""
+"""Problems in the files of BurrTools, for tools/convert. Plain Python, NOT PROVED; it trusts that a file means what BurrTools means by it, and not
+that it is small: what is read is bounded as it is read."""
 
 import gzip
 import io
 import re
-import xml.etree.ElementTree
+import xml.parsers.expat
 import zlib
 
-from cells import moved
-from frame import stop
+from cells import moved, so_many, turned
+from frame import escaped, stop
 from puzzles import LETTERS
 
-# A file that unpacks to more is no puzzle.
-MOST = 1 << 26
+# No file has more bytes; and of a packed one no more is unpacked than FIRST and TIMES as much as it has.
+MOST, FIRST, TIMES = 1 << 26, 1 << 20, 50
+# The text of a file is read in parts of so many bytes.
+PART = 1 << 16
+# So many elements are kept, so many places has the grid of a shape, and so many cells have a region and a piece.
+ELEMENTS, GRID, REGION, PIECE = 10000, 1 << 17, 4096, 64
+# Coordinates are below this; and so many names are shown of a list.
+LIMIT, SHOWN = 32, 20
 GRIDS = {"1": "triangular prisms", "2": "spheres", "3": "rhombic dodecahedra", "4": "tetrahedra and octahedra"}
+# The elements that say something of a problem. The others, as solutions that were found, may be many.
+PROBLEM = "puzzle/problems/problem"
+KEPT = {
+    "puzzle", "puzzle/gridType", "puzzle/shapes", "puzzle/shapes/voxel", "puzzle/problems", PROBLEM, PROBLEM + "/shapes", PROBLEM + "/shapes/shape",
+    PROBLEM + "/shapes/shape/group", PROBLEM + "/result", PROBLEM + "/bitmap", PROBLEM + "/bitmap/pair",
+}
 
 
-def unpacked(data):
-    """The text of an .xmpuzzle file."""
+def parts_of(data):
+    """The text of an .xmpuzzle file, part by part."""
     if data[:2] != b"\x1f\x8b":
-        return data
+        if len(data) > MOST:
+            stop("this has more than %d bytes" % MOST)
+        yield data
+        return
+    most, count = min(MOST, FIRST + TIMES * len(data)), 0
     try:
         with gzip.GzipFile(fileobj=io.BytesIO(data)) as file:
-            text = file.read(MOST + 1)
+            for part in iter(lambda: file.read(PART), b""):
+                count += len(part)
+                if count > most:
+                    stop("this unpacks to more than %d bytes, and no puzzle is packed so well" % most)
+                yield part
     except (OSError, EOFError, zlib.error) as error:
         stop("this is no whole gzip file: %s" % error)
-    if len(text) > MOST:
-        stop("this unpacks to more than %d bytes" % MOST)
-    return text
+
+
+class Node:
+    """An element: its name, its attributes, the elements in it, and its text."""
+
+    def __init__(self, tag, attributes):
+        self.tag, self.attributes, self.inner, self.text = tag, attributes, [], ""
+
+    def get(self, name, default=None):
+        """An attribute."""
+        return self.attributes.get(name, default)
+
+    def all(self, path):
+        """The elements below it that a path of names leads to."""
+        found = [self]
+        for tag in path.split("/"):
+            found = [inner for node in found for inner in node.inner if inner.tag == tag]
+        return found
+
+    def first(self, path):
+        """The first of these, or None."""
+        return next(iter(self.all(path)), None)
+
+
+class Tree:
+    """Reads an .xmpuzzle file, and keeps the elements that say something of a problem."""
+
+    def __init__(self, data):
+        self.top, self.open, self.skipped, self.kept, self.words = None, [], 0, 0, []
+        parser = xml.parsers.expat.ParserCreate()
+        parser.buffer_text = True
+        parser.StartElementHandler, parser.EndElementHandler, parser.CharacterDataHandler = self.begin, self.end, self.words_of
+        parser.EntityDeclHandler = self.entity
+        try:
+            for part in parts_of(data):
+                parser.Parse(part)
+            parser.Parse(b"", True)
+        except xml.parsers.expat.ExpatError as error:
+            stop("this is no .xmpuzzle file: %s" % error)
+
+    def entity(self, name, *_):
+        """An entity may stand for any amount of text."""
+        stop("this file declares an entity, `%s`, and no .xmpuzzle file does" % escaped(name))
+
+    def begin(self, tag, attributes):
+        """An element begins."""
+        if self.top is None and tag != "puzzle":
+            stop("this is no .xmpuzzle file: its first element is <%s>, and not <puzzle>" % escaped(tag))
+        if self.skipped or "/".join([*(node.tag for node in self.open), tag]) not in KEPT:
+            self.skipped += 1
+            return
+        self.kept += 1
+        if self.kept > ELEMENTS:
+            stop("this has more than %d shapes, problems and pieces" % ELEMENTS)
+        node = Node(tag, attributes)
+        if self.open:
+            self.open[-1].inner.append(node)
+        else:
+            self.top = node
+        self.open.append(node)
+
+    def words_of(self, text):
+        """Text in an element; that of a shape is kept."""
+        if not self.skipped and self.open and self.open[-1].tag == "voxel":
+            self.words.append(text)
+
+    def end(self, _):
+        """An element ends."""
+        if self.skipped:
+            self.skipped -= 1
+            return
+        node = self.open.pop()
+        node.text, self.words = "".join(self.words), []
 
 
 def attribute(node, name, default=None):
@@ -38,21 +129,41 @@ def attribute(node, name, default=None):
 
 
 class Shape:
-    """A shape: its name, the cells that are filled, those that may be, and how many have a colour."""
+    """A shape: its name, and its cells once they are asked for: those that are filled, those that may be, and how many have a colour."""
 
     def __init__(self, number, node):
-        self.name = node.get("name") or "S%d" % (number + 1)
-        size = [attribute(node, axis) for axis in "xyz"]
-        marks = re.findall(r"[#+_]\d*|\S", node.text or "")
-        if len(marks) != size[0] * size[1] * size[2]:
-            stop("shape %s has %d cells drawn, and is to have %d x %d x %d" % (self.name, len(marks), *size))
+        self.name, self.node, self.is_read = escaped(node.get("name") or "S%d" % (number + 1)), node, False
+        self.filled, self.spare, self.coloured = [], [], 0
+
+    def read(self, most, what):
+        """Reads the cells, of which there may be so many."""
+        if self.is_read:
+            return self
+        self.is_read, text = True, self.node.text
+        wide, high, deep = (attribute(self.node, axis) for axis in "xyz")
+        if wide * high * deep > GRID:
+            stop("shape %s has a grid of %d x %d x %d, and no puzzle needs more than %d places" % (self.name, wide, high, deep, GRID))
+        drawn = text.count("#") + text.count("+")
+        if drawn > most:
+            stop("shape %s is %s, and has %d cells, where the program takes %d" % (self.name, what, drawn, most))
+        marks = re.findall(r"[#+_]\d*|\S", text[: 8 * GRID])
+        if len(marks) != wide * high * deep:
+            stop("shape %s has %s drawn, and is to have %d x %d x %d" % (self.name, so_many(len(marks)), wide, high, deep))
         strange = [mark for mark in marks if mark[0] not in "#+_"]
         if strange:
-            stop("shape %s has a mark `%s`, which is none of `#`, `+` and `_`" % (self.name, strange[0]))
-        places = [(at % size[0], at // size[0] % size[1], at // size[0] // size[1]) for at in range(len(marks))]
-        self.filled = [place for place, mark in zip(places, marks) if mark[0] == "#"]
-        self.spare = [place for place, mark in zip(places, marks) if mark[0] == "+"]
-        self.coloured = sum(len(mark) > 1 and mark[0] != "_" for mark in marks)
+            stop("shape %s has a mark `%s`, which is none of `#`, `+` and `_`" % (self.name, escaped(strange[0])))
+        for at, mark in enumerate(marks):
+            if mark[0] != "_":
+                place = (at % wide, at // wide % high, at // wide // high)
+                (self.filled if mark[0] == "#" else self.spare).append(place)
+                self.coloured += len(mark) > 1
+        return self
+
+
+def listed(names):
+    """Names of problems with their numbers, the first ones of many."""
+    told = ", ".join("%d `%s`" % (number, escaped(name)) for number, name in enumerate(names[:SHOWN], 1))
+    return told + (", and %d more" % (len(names) - SHOWN) if len(names) > SHOWN else "")
 
 
 def chosen(problems, name, tell):
@@ -62,23 +173,59 @@ def chosen(problems, name, tell):
     names = [it.get("name") or "" for it in problems]
     if name is None:
         if len(problems) > 1:
-            tell("there are %d problems, and this is the first: %s" % (len(problems), ", ".join("%d `%s`" % it for it in enumerate(names, 1))))
+            tell("there are %d problems, and this is the first: %s" % (len(problems), listed(names)))
         return problems[0]
     if name in names:
         return problems[names.index(name)]
     if re.fullmatch("[0-9]{1,6}", name) and 1 <= int(name) <= len(problems):
         return problems[int(name) - 1]
-    return stop("there is no problem `%s`: there are %s" % (name, ", ".join("%d `%s`" % it for it in enumerate(names, 1))))
+    return stop("there is no problem `%s`: there are %s" % (name, listed(names)))
 
 
-def named(counts, room):
-    """The lines of the pieces: for each its first words, its name or names, and its shape. A name is that of the shape where this is a letter or
-    digit, else the next free one. `room` is the number of cells that may be filled."""
-    free, taken = [it for it in LETTERS[10:] + LETTERS[:10] if it not in {shape.name for shape, _, _ in counts}], set()
+def bits(cells):
+    """A number that has a bit for each cell, in rows so wide that no form which is as long as a region runs over."""
+    row = bytearray(1 << 15)
+    for x, y, z in cells:
+        at = x + 64 * (y + 64 * z)
+        row[at >> 3] |= 1 << (at & 7)
+    return int.from_bytes(row, "little")
+
+
+def lies_on(shape, there):
+    """Whether a shape can lie on some cells alone, whose bits these are."""
+    for form in turned(shape.filled):
+        at = there if max(map(max, form)) < LIMIT else 0
+        for x, y, z in form:
+            at &= there >> (x + 64 * (y + 64 * z))
+        if at:
+            return True
+    return False
+
+
+def ranges(counts, region, tell):
+    """Each shape with the least and the greatest number, and whether any number is as good: where no more fit in any case, and none can lie on
+    cells alone that may stay empty, on which an `any piece` isn't laid. Nor is a `maybe piece`, and the range from 0 to 1 has no other line."""
+    room, spare = len(region.filled) + len(region.spare), moved(region.spare)
+    # (a region that is too long is refused later)
+    there = bits(spare) if spare and max(map(max, spare)) < LIMIT else 0
     for shape, least, most in counts:
-        is_any = not least and most > 1 and most * len(shape.filled) >= room
-        if not is_any and most > len(LETTERS):
-            stop("shape %s is laid %d to %d times" % (shape.name, least, most))
+        if not shape.filled:
+            stop("shape %s is a piece, and has no cell" % shape.name)
+        if least > len(LETTERS):
+            stop("shape %s is laid %d times and more, and the program has %d names" % (shape.name, least, len(LETTERS)))
+        fits = room // len(shape.filled)
+        is_loose = not least and lies_on(shape, there)
+        if is_loose and min(most, fits) == 1:
+            tell("shape %s is laid once or not at all: it becomes a `maybe piece`, which isn't laid on cells alone that may stay empty, and"
+                 " packings where it is are left out" % shape.name)
+        yield shape, least, max(least, min(most, fits)), not least and 1 < fits <= most and not is_loose
+
+
+def named(counts):
+    """The lines of the pieces: for each its first words, its name or names, and its shape. A name is that of the shape where this is a letter or
+    digit, else the next free one."""
+    free, taken = [it for it in LETTERS[10:] + LETTERS[:10] if it not in {shape.name for shape, _, _, _ in counts}], set()
+    for shape, least, most, is_any in counts:
         own = [shape.name] if len(shape.name) == 1 and shape.name in LETTERS and shape.name not in taken else []
         taken.update(own)
         many = 1 if is_any else most
@@ -87,8 +234,7 @@ def named(counts, room):
         names = [*own, *(free.pop(0) for _ in range(many - len(own)))][:many]
         if is_any:
             yield "any piece", names[0], shape
-            continue
-        if most == 1:
+        elif most == 1:
             yield "piece" if least else "maybe piece", names[0], shape
         elif most:
             yield "copies", "".join(names[:least]) + "+" * (least < most) + "".join(names[least:]), shape
@@ -100,23 +246,18 @@ def lost(problem, used, tell):
     if coloured:
         tell("colours of %s are left out: packings that colours forbid are counted too" % ", ".join(dict.fromkeys(coloured)))
     if problem.get("maxHoles"):
-        tell("the bound of %s on holes is left out: packings with more are counted too" % problem.get("maxHoles"))
-    if problem.find("bitmap") is not None:
+        tell("the bound of %s on holes is left out: packings with more are counted too" % escaped(problem.get("maxHoles")))
+    if problem.first("bitmap/pair") is not None:
         tell("which colours may lie on which is left out: packings that it forbids are counted too")
 
 
 def puzzle_of(data):
     """The first element of a file that is a puzzle of cubes."""
-    try:
-        top = xml.etree.ElementTree.fromstring(unpacked(data))
-    except xml.etree.ElementTree.ParseError as error:
-        stop("this is no .xmpuzzle file: %s" % error)
-    if top.tag != "puzzle":
-        stop("this is no .xmpuzzle file: its first element is <%s>, and not <puzzle>" % top.tag)
-    grid = top.find("gridType")
+    top = Tree(data).top
+    grid = top.first("gridType")
     kind = "0" if grid is None else grid.get("type", "0")
     if kind != "0":
-        stop("this puzzle is of %s, and the program knows cubes alone" % GRIDS.get(kind, "a grid of type %s" % kind))
+        stop("this puzzle is of %s, and the program knows cubes alone" % GRIDS.get(kind, "a grid of type %s" % escaped(kind)))
     return top
 
 
@@ -130,36 +271,41 @@ def shape_of(node, shapes):
 
 def counts_of(problem, shapes, tell):
     """The shapes that a problem lays, each with the least and the greatest number."""
-    for node in problem.findall("shapes/shape"):
+    for node in problem.all("shapes/shape"):
         shape, count = shape_of(node, shapes), node.get("count")
         least, most = attribute(node, "min", count), attribute(node, "max", count)
-        if shape.spare:
-            stop("shape %s is a piece, and has cells that may stay empty (`+`)" % shape.name)
         if least > most:
             stop("shape %s is laid %d to %d times" % (shape.name, least, most))
-        if node.findall("group") or node.get("group"):
+        if most:
+            shape.read(PIECE, "a piece")
+        if shape.spare:
+            stop("shape %s is a piece, and has cells that may stay empty (`+`)" % shape.name)
+        if node.inner or node.get("group"):
             tell("shape %s has groups, which say whether pieces come apart: they are left out, and the packings are the same" % shape.name)
-        yield shape, least, most
+        if most:
+            yield shape, least, most
 
 
 def read(data, name, tell):
     """The pieces of a problem, as (first words, name or names, cells), the shape that is to be filled, and comments. `tell` is called with
     what can't be carried."""
     top = puzzle_of(data)
-    shapes = [Shape(number, node) for number, node in enumerate(top.findall("shapes/voxel"))]
-    problem = chosen(top.findall("problems/problem"), name, tell)
-    result = problem.find("result")
+    shapes = [Shape(number, node) for number, node in enumerate(top.all("shapes/voxel"))]
+    problem = chosen(top.all("problems/problem"), name, tell)
+    result = problem.first("result")
     if result is None:
         stop("the problem has no result: in BurrTools a shape has to be assigned as the one to be filled")
-    region, counts = shape_of(result, shapes), list(counts_of(problem, shapes, tell))
+    counts, region = list(counts_of(problem, shapes, tell)), shape_of(result, shapes).read(REGION, "the region")
+    if len(counts) > len(LETTERS):
+        stop("there are more pieces than the %d names that the program has" % len(LETTERS))
     if not region.filled and not region.spare:
         stop("shape %s is the region, and has no cell" % region.name)
-    lost(problem, [region, *(shape for shape, _, most in counts if most)], tell)
-    pieces, comments = [], ["%s, from BurrTools" % (problem.get("name") or "A problem").replace("\n", " ")]
-    for kind, names, shape in named(counts, len(region.filled) + len(region.spare)):
+    lost(problem, [region, *(shape for shape, _, _ in counts)], tell)
+    pieces, comments = [], ["%s, from BurrTools" % (problem.get("name") or "A problem")]
+    for kind, names, shape in named(list(ranges(counts, region, tell))):
         pieces.append((kind, names, moved(shape.filled)))
         if names != shape.name:
             comments.append("%s %s shape %s" % (names.replace("+", ""), "is" if len(names) == 1 else "are", shape.name))
     if not pieces:
         stop("the problem has no piece")
-    return pieces, region, [re.sub(r"[^ -~]", "?", it) for it in comments]
+    return pieces, region, [re.sub(r"[^ -~]", "?", it[:200]) for it in comments]

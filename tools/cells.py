@@ -17,6 +17,11 @@ def word(place):
     return "".join(DIGITS[number] for number in place)
 
 
+def so_many(count):
+    """So many cells, as `1 cell`."""
+    return "%d cell%s" % (count, "" if count == 1 else "s")
+
+
 def least_corner(cells):
     """The least corner of the bounding box of some cells."""
     return tuple(min(place[axis] for place in cells) for axis in range(3))

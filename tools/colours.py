@@ -5,6 +5,7 @@ and those without one of the three kinds of cones. Each further one is as far fr
 well as in hue."""
 
 import math
+import re
 
 PALETTE = (
     "#ddfc6e", "#aa32a4", "#75ae81", "#bdbcfd", "#a0fffe", "#c92516", "#cc70f2", "#fe6a00", "#455ee1", "#e5c057", "#946e79", "#15e6a8",
@@ -72,9 +73,15 @@ def neighbours(marks):
     return near
 
 
-def colours(marks, names=()):
-    """A colour for each piece of a packing: its own, by its number among the names that may come. Where these are many and a neighbour's is
-    near, the one used least of those that are far from its neighbours', or else the farthest."""
+def chosen(text):
+    """The colours that the comments of a puzzle text choose, as `# colour A #rrggbb` does, by the names of pieces."""
+    found = re.findall(r"^[^#\n]*#[ \t]*colou?r[ \t]+([0-9A-Za-z])[ \t]+(#[0-9A-Fa-f]{6})[ \t]*\r?$", text, re.M)
+    return {name: colour.lower() for name, colour in found}
+
+
+def colours(marks, names=(), own=None):
+    """A colour for each piece of a packing: the one that is chosen for its name, or else its own, by its number among the names that may come. Where
+    these are many and a neighbour's is near, the one used least of those that are far from its neighbours', or else the farthest."""
     near, taken, used = neighbours(marks), {}, [0] * len(PALETTE)
     names = sorted({*names, *near})
     for number, name in enumerate(names):
@@ -90,4 +97,5 @@ def colours(marks, names=()):
             best = min(far, key=lambda colour: (used[colour], -apart(colour))) if far else max(range(len(PALETTE)), key=apart)
         taken[name] = best
         used[best] += 1
-    return {name: PALETTE[number] for name, number in taken.items()}
+    # (of a copy, as Y2, the colour of its piece)
+    return {name: (own or {}).get(name[0]) or PALETTE[number] for name, number in taken.items()}

@@ -1,18 +1,27 @@
 """Copies of a piece that is used any number of times, told apart in packings that `polylab solve` printed. Plain Python, NOT PROVED; it trusts
 that what it is given is what `solve` printed."""
 
-from cells import shifted, turned
+from array import array
+from collections import OrderedDict
+from itertools import islice
+
+from cells import least_corner, shifted, turned
 from frame import stop
+from numbering import Numbering, sum_of
+from packings import Packing
+
+# Of so many looks that came last the ways that are left are kept; those of others are looked for again.
+KEPT = 1000
 
 
-def coverings(cells, shapes, symbols):
+def coverings(cells, shapes, symbols, required):
     """Each way to lay all of some cells, each with its symbol, with these shapes, moved, as a list of sets of cells whose least cells rise. The
-    symbols show the copies in turn."""
+    symbols show the copies in turn, and each copy fills a cell that has to be filled."""
     laid, left, trying = [], set(cells), []
     while True:
         if left:
             turn = symbols[len(laid) % len(symbols)]
-            trying.append(iter(puts(left, {place for place in left if cells[place] == turn}, shapes)))
+            trying.append(iter(puts(left, {place for place in left if cells[place] == turn}, shapes, required)))
         else:
             yield list(laid)
         while trying:
@@ -28,11 +37,11 @@ def coverings(cells, shapes, symbols):
             return
 
 
-def puts(left, own, shapes):
-    """The ways to lay the least of the cells that are left on cells of its own symbol."""
+def puts(left, own, shapes, required):
+    """The ways to lay the least of the cells that are left on cells of its own symbol, one of which has to be filled."""
     first = min(left)
     laid = (set(shifted(shape, shape[0], first)) for shape in shapes)
-    return [put for put in laid if put <= own]
+    return [put for put in laid if put <= own and not required.isdisjoint(put)]
 
 
 def ways_of(parts):
@@ -45,22 +54,38 @@ def ways_of(parts):
             yield [first, *rest]
 
 
-def told_apart(found, puzzle):
-    """The packings with a mark for each copy of a piece that is used any number of times, as Y1, Y2, .. Those of one symbol are
-    drawn alike, so which cells make a copy is looked for; of packings that look the same, each is given another way."""
-    pieces = [piece for piece in puzzle.pieces if piece.need == "any"]
-    if not pieces:
-        return found
-    shapes = [sorted(turned(piece.cells, piece.mirror)) for piece in pieces]
-    ways, told = {}, []
-    for number, marks in found:
-        text = "".join(mark for _, mark in sorted(marks.items()))
-        if text not in ways:
-            ways[text] = ways_of([({place: mark for place, mark in marks.items() if mark in piece.symbols}, shape, piece.symbols)
-                                  for piece, shape in zip(pieces, shapes)])
-        way = next(ways[text], None)
+class Copies:
+    """Packings one after the other with a mark for each copy of a piece that is used any number of times, as Y1, Y2, .. Those of one symbol are
+    drawn alike, so which cells make a copy is looked for; of packings that look the same, each is given another way. Without a puzzle all stay
+    as they are."""
+
+    def __init__(self, puzzle=None):
+        self.pieces = [piece for piece in puzzle.pieces if piece.need == "any"] if puzzle else []
+        self.shapes = [sorted(turned(piece.cells, piece.mirror)) for piece in self.pieces]
+        self.required = {*shifted(puzzle.required, least_corner(puzzle.region), (0, 0, 0))} if puzzle else set()
+        # For each look how often it came; and of those that came last what finds their next way.
+        self.looks, self.times, self.ways = Numbering(), array("I"), OrderedDict()
+
+    def told(self, packing):
+        """A packing with its copies told apart."""
+        if not self.pieces:
+            return packing
+        marks = packing.cells()
+        look = self.looks.number(sum_of(repr((packing.size, packing.marks)).encode()))
+        if look == len(self.times):
+            self.times.append(0)
+        ways = self.ways.pop(look, None) or islice(self.ways_to_lay(marks), self.times[look], None)
+        way = next(ways, None)
         if way is None:
-            stop("packing %d is none of this puzzle: its pieces that are used any number of times have other shapes" % number)
-        copies = {place: piece.name + str(at) for piece, laid in zip(pieces, way) for at, put in enumerate(laid, 1) for place in put}
-        told.append((number, {place: copies.get(place, mark) for place, mark in marks.items()}))
-    return told
+            stop("packing %d is none of this puzzle: its pieces that are used any number of times have other shapes" % packing.number)
+        self.times[look] += 1
+        self.ways[look] = ways
+        if len(self.ways) > KEPT:
+            self.ways.popitem(last=False)
+        copies = {place: piece.name + str(at) for piece, laid in zip(self.pieces, way) for at, put in enumerate(laid, 1) for place in put}
+        return Packing(packing.number, packing.size, [copies.get(place, mark) for place, mark in marks.items()])
+
+    def ways_to_lay(self, marks):
+        """Each way to tell the copies of a packing apart."""
+        return ways_of([({place: mark for place, mark in marks.items() if mark in piece.symbols}, shape, piece.symbols, self.required)
+                        for piece, shape in zip(self.pieces, self.shapes)])

@@ -9,6 +9,7 @@ import contextlib
 import os
 import re
 import sys
+import time
 
 VERSION = "0.1.0"
 TOP = os.path.dirname(os.path.dirname(os.path.realpath(__file__)))
@@ -41,37 +42,58 @@ def naming(path):
         raise
 
 
+@contextlib.contextmanager
+def opened(path):
+    """A file to be read, byte by byte; standard input where the path is `-`."""
+    if path != "-":
+        with naming(path), open(path, "rb") as file:
+            yield file
+        return
+    if sys.stdin is None:
+        stop("standard input is closed")
+    if sys.stdin.isatty():
+        print("%s: reading from the terminal, up to Ctrl-D" % NAME, file=sys.stderr)
+    with naming("standard input"):
+        yield sys.stdin.buffer
+
+
 def read_file(path):
     """The text of a file, a character for each byte; of standard input where the path is `-`."""
-    if path == "-":
-        if sys.stdin is None:
-            stop("standard input is closed")
-        if sys.stdin.isatty():
-            print("%s: reading from the terminal, up to Ctrl-D" % NAME, file=sys.stderr)
-        with naming("standard input"):
-            return sys.stdin.buffer.read().decode("latin-1")
-    with naming(path), open(path, "rb") as file:
+    with opened(path) as file:
         return file.read().decode("latin-1")
 
 
-def write_whole(path, text):
-    """Writes a file whole: to a name beside it first, which is then renamed. Where that fails, what was there stays."""
-    new = path + ".new"
-    try:
-        with naming(new), open(new, "w", encoding="latin-1", newline="") as file:
-            file.write(text)
-            file.flush()
-            os.fsync(file.fileno())
-        os.replace(new, path)
-    except BaseException:
-        with contextlib.suppress(OSError):
-            os.remove(new)
-        raise
+def read_lines(path):
+    """The same line by line, each without its end; no more than a line is kept."""
+    with opened(path) as file:
+        for line in file:
+            line = line[:-1] if line.endswith(b"\n") else line
+            yield (line[:-1] if line.endswith(b"\r") else line).decode("latin-1")
+
+
+class Progress:
+    """Tells somebody at a terminal how far a script is, once it was at work for ten seconds, and then every ten seconds."""
+
+    def __init__(self, what):
+        self.what, self.every = what, float(os.environ.get("POLYLAB_PATIENCE") or 10)
+        self.next = time.monotonic() + self.every
+
+    def tell(self, count):
+        """So many are done."""
+        if time.monotonic() >= self.next:
+            self.next += self.every
+            if sys.stderr is not None and sys.stderr.isatty():
+                print("%s: %d %s so far" % (NAME, count, self.what), file=sys.stderr, flush=True)
+
+
+def escaped(text):
+    """Text as it can be shown: in place of each character that isn't printed, as those that control a terminal, stands its number."""
+    return "".join(mark if mark.isprintable() else ascii(mark)[1:-1] for mark in text)
 
 
 def wrong(word, what):
     """Ends the script for a word of its command line."""
-    print("%s: %s: %s (%s --help tells the words)" % (NAME, word, what, NAME), file=sys.stderr)
+    print("%s: %s: %s (%s --help tells the words)" % (NAME, escaped(word), what, NAME), file=sys.stderr)
     sys.exit(2)
 
 
@@ -82,6 +104,17 @@ def whole(least, most):
         if not (word.isdecimal() and word.isascii() and least <= int(word) <= most):
             raise ValueError("a whole number from %d to %d has to stand here" % (least, most))
         return int(word)
+
+    return read
+
+
+def decimal(least, most):
+    """Reads a number with or without a point, from least to most."""
+
+    def read(word):
+        if not (re.fullmatch(r"[0-9]{1,9}(\.[0-9]{1,9})?", word) and least <= float(word) <= most):
+            raise ValueError("a number from %g to %g has to stand here" % (least, most))
+        return float(word) if "." in word else int(word)
 
     return read
 
@@ -141,9 +174,9 @@ def run(main, doc, names=("[FILE]",), flags=(), values=None):
     except KeyboardInterrupt:
         status = "%s: stopped" % NAME
     except Stop as why:
-        status = "%s: %s" % (NAME, installed_words(str(why)))
+        status = "%s: %s" % (NAME, "\n".join(map(escaped, installed_words(str(why)).split("\n"))))
     except OSError as error:
-        status = "%s: %s: %s" % (NAME, error.filename or "standard output", error.strerror or error)
+        status = "%s: %s: %s" % (NAME, escaped(str(error.filename or "standard output")), error.strerror or error)
     except MemoryError:
         status = "%s: there is not enough memory" % NAME
     except (ValueError, LookupError) as error:

@@ -3,11 +3,12 @@
 #
 #     polylab count soma-cube.puzzle
 #
-# A file as the last word is the program's standard input (../lib/polylab/given.sh). All else is the program's own, and so are its statuses.
+# A file among the words is the program's standard input, and `polylab explain` is polylab-explain (../lib/polylab/given.sh). All else is the
+# program's own, and so are its statuses.
 set -eu
 self=$(readlink -f "$0")
 lib=$(dirname "$(dirname "$self")")/lib/polylab
-program=$lib/polylab stamp=$lib/built slices=polylab-slices
+program=$lib/polylab stamp=$lib/built slices=polylab-slices watcher=$(dirname "$self")/polylab-slices explain=$(dirname "$self")/polylab-explain
 # shellcheck source=tools/given.sh
 . "$lib/given.sh"
 start "$@"

@@ -1,66 +1,108 @@
-"""The packings that `polylab solve` printed, as cells with what is drawn there. Plain Python, NOT PROVED; it trusts that what it reads is what
-`solve` printed."""
+"""The packings that `polylab solve` printed, one after the other as they are read: none is kept here, however many they are. Plain Python, NOT
+PROVED; it trusts that what it reads is what `solve` printed."""
 
-from frame import Stop, read_file
-from texts import lines_of
+import functools
+import string
 
+from frame import Progress, Stop, escaped, read_lines
 
-def packings_of(path):
-    """The packings that `polylab solve` printed into a file, or to standard input where there is none, as far as they are all there."""
-    lines = lines_of(read_file(path or "-"))
-    found, total = packings(lines)
-    if total is None:
-        raise Stop("this isn't all that `solve` printed: no line `packings` comes last")
-    if is_first(lines):
-        raise Stop("these are the first packings alone, and all are needed: `solve` prints them without --first")
-    if total != len(found):
-        raise Stop("this isn't all that `solve` printed: the last line says %d, and %d packings were read" % (total, len(found)))
-    return found
+# What is drawn: names of pieces, `_` for an empty cell, and `.` outside the region.
+MARKS = {*string.ascii_letters, *string.digits, *"._"}
 
 
-def is_first(lines):
-    """Whether `polylab solve --first` stopped at the last of these packings, so that there may be more."""
-    return any(line.split()[:1] == ["first"] for line in lines[-1:])
+class Packing:
+    """A packing as it is drawn: its number, how far the box reaches along x, y and z, and what is drawn at each of its cells, in the order in which
+    these are drawn."""
+
+    __slots__ = ("number", "size", "marks")
+
+    def __init__(self, number, size, marks):
+        self.number, self.size, self.marks = number, size, marks
+
+    def cells(self):
+        """What is drawn at each cell, as a dict."""
+        return dict(zip(places_of(self.size), self.marks))
+
+    def rows(self):
+        """The lines by which it is drawn."""
+        wide, high, deep = self.size
+        return [" ".join(self.marks[at : at + wide] for at in range(y * deep * wide, (y + 1) * deep * wide, wide)) for y in range(high)]
 
 
-def packings(lines):
-    """The packings that `polylab solve` printed: for each its number and a dict from cells to characters, both as printed.
-    The last item is the number on the line `packings`, or `first`."""
-    found, rows, at, total = [], [], None, None
-    for line in lines:
-        words = line.split()
-        if words[:1] in (["packing"], ["packings"], ["first"]) and len(words) == 2:
+@functools.lru_cache(maxsize=8)
+def places_of(size):
+    """The cells of a box, in the order in which they are drawn: line by line, in each word by word, in these from left to right."""
+    wide, high, deep = size
+    return [(x, y, z) for y in range(high) for z in range(deep) for x in range(wide)]
+
+
+class Solved:
+    """Goes once through the packings in a file, or those of standard input where there is none, as far as they are all there. Then `count` is how many
+    they were, `total` the number in the last line, None where there is none, and `is_first` whether `solve --first` wrote that line, so that
+    there may be more. Lines in place of a file's name are taken as they come."""
+
+    def __init__(self, path):
+        self.lines = read_lines(path or "-") if path is None or isinstance(path, str) else path
+        self.count, self.total, self.is_first = 0, None, False
+
+    def __iter__(self):
+        number, rows, progress = None, [], Progress("packings read")
+        for line in self.lines:
+            words = line.split()
+            if words[:1] not in (["packing"], ["packings"], ["first"]) or len(words) != 2:
+                if number is None:
+                    raise Stop("this isn't what `solve` printed: no line `packing` comes first")
+                rows.append(words)
+                continue
             if not (words[1].isascii() and words[1].isdecimal()):
                 raise Stop("the line `%s` has no number" % line)
-            if at is not None:
-                found.append((at, packing(at, rows)))
+            if number is not None:
+                self.count += 1
+                progress.tell(self.count)
+                yield packing(number, rows)
+            number, rows = int(words[1]), []
             if words[0] != "packing":
-                total = int(words[1])
-                break
-            at, rows = int(words[1]), []
-        elif at is None:
-            raise Stop("this isn't what `solve` printed: no line `packing` comes first")
-        else:
-            rows.append(words)
-    return found, total
+                self.total, self.is_first = number, words[0] == "first"
+                return
+
+    def all(self):
+        """The packings, where all that `solve` printed is there, and it is all packings; else the script ends after the last with a sentence."""
+        yield from self
+        if self.total is None:
+            raise Stop("this isn't all that `solve` printed: no line `packings` comes last")
+        if self.is_first:
+            raise Stop("these are the first packings alone, and all are needed: `solve` prints them without --first")
+        if self.total != self.count:
+            raise Stop("this isn't all that `solve` printed: the last line says %d, and %d packings were read" % (self.total, self.count))
 
 
 def packing(number, rows):
-    """The characters of a packing as it is drawn."""
-    marks = drawn(rows)
-    if marks is None:
+    """A packing by the words of its lines."""
+    size = size_drawn(rows)
+    if size is None:
         raise Stop("packing %d isn't drawn as a box" % number)
-    if all(mark == "." for mark in marks.values()):
+    marks = "".join(["".join(row) for row in rows])
+    strange = set(marks) - MARKS
+    if strange:
+        # (a mark becomes a part of pictures and of names of files)
+        raise Stop("packing %d has the mark `%s`, which is no name of a piece" % (number, escaped(min(strange))))
+    if not marks.strip("."):
         raise Stop("packing %d has no cell" % number)
-    return marks
+    return Packing(number, size, marks)
+
+
+def size_drawn(rows):
+    """How far a box reaches that is drawn by these rows of words: a row for each y, in it a word for each z, in that a character for each x. None
+    where the rows have not as many words, or the words not as many characters."""
+    if not rows or not rows[0] or {tuple(map(len, row)) for row in rows} != {(len(rows[0][0]),) * len(rows[0])}:
+        return None
+    return len(rows[0][0]), len(rows), len(rows[0])
 
 
 def drawn(rows):
-    """The characters of a box by their cells: a row for each y, in it a word for each z, in that a character for each x. None where the rows
-    have not as many words, or the words not as many characters."""
-    if not rows or not rows[0] or {tuple(map(len, row)) for row in rows} != {(len(rows[0][0]),) * len(rows[0])}:
-        return None
-    return {(x, y, z): mark for y, row in enumerate(rows) for z, layer in enumerate(row) for x, mark in enumerate(layer)}
+    """The characters of a box by their cells, or None where these rows draw none."""
+    size = size_drawn(rows)
+    return size and dict(zip(places_of(size), "".join(map("".join, rows))))
 
 
 def pieces_of(marks):

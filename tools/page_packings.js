@@ -13,10 +13,10 @@ const firstOf = [];                              // of each class the first pack
 DATA.classes?.forEach((number, k) => { firstOf[number] ??= k; });
 let packing = 0, listed = [], solid, paints, picture = new Picture(), isMoving = false, settling = 0;
 
-// A colour for each piece of a packing; they differ from packing to packing, as other pieces touch.
+// A colour for each piece of a packing, the one that is chosen for its name or another; they differ from packing to packing, as other pieces touch.
 function paintsOf(shape) {
   const near = neighbours(marks.length, shape.cells, (x, y, z) => shape.at(x, y, z));
-  return coloursOf(marks.length, near).map(colour => DATA.palette[colour]);
+  return coloursOf(marks.length, near).map((colour, body) => DATA.colours[nameOf(body)[0]] || DATA.palette[colour]);
 }
 
 // The packing that is chosen, drawn: at once while it is turned, and with more samples when it rests.
@@ -33,12 +33,51 @@ function draw() {
   const line = Math.max(scale, Math.min(2.2 * scale, 0.03 * unit));
   pen.putImageData(picture.draw(solid, faces, moves, looked, {width, height, samples, paints: paints.map(rgb), line}), 0, 0);
   const spots = picture.spots(solid);
+  if (get("ghosts").checked) drawGhosts(upto, scale);
   if (get("names").checked) drawNames(pen, spots, nameOf, scale);
   drawAxes();
   const cells = solid.cells.filter((cell, k) => shown.has(solid.bodies[k]) && cell[2] < upto).length;
   Object.assign(document.body.dataset, {packing: packing + 1, cells, pieces: shown.size, total: DATA.packings.length, listed: listed.length,
     turn: looked.turn.toFixed(2), tilt: looked.tilt.toFixed(2), zoom: looked.zoom.toFixed(2), unit: unit.toFixed(1), scale, samples,
     named: [...spots].map(([body, spot]) => [nameOf(body), spot.x.toFixed(0), spot.y.toFixed(0), spot.round.toFixed(1)].join(":")).join(" ")});
+}
+
+// The outlines of the pieces that are hidden, over the picture.
+function drawGhosts(upto, scale) {
+  pen.strokeStyle = "#8888";
+  pen.lineWidth = scale;
+  pen.beginPath();
+  for (const face of solid.faces((body, cell) => hidden.has(body) && cell[2] < upto)) for (const [from, to] of picture.borders(solid, face)) {
+    pen.moveTo(...from);
+    pen.lineTo(...to);
+  }
+  pen.stroke();
+}
+
+// What is shown, as an SVG: the faces that look this way, from the back to the front, with thick lines between pieces; and the names.
+function svgOf() {
+  const {width, height} = picture, points = list => list.map(point => point.map(it => it.toFixed(1)).join(",")).join(" ");
+  const drawn = picture.faces.filter(face => picture.towards(face) > 1e-4).map(face => ({face, ...picture.square(solid, face)}));
+  drawn.sort((one, other) => one.depth - other.depth);
+  const parts = drawn.map(({face, corners}) => {
+    const light = 0.66 + 0.34 * picture.towards(face), paint = rgb(paints[face.body]).map(it => Math.round(light * it));
+    const thick = picture.borders(solid, face).map(line => `<polyline points="${points(line)}" stroke-width="2.4"/>`);
+    return `<polygon points="${points(corners)}" fill="rgb(${paint})"/>${thick.join("")}`;
+  });
+  const names = !get("names").checked ? [] : [...picture.spots(solid)].map(([body, {x, y, round}]) =>
+    `<text x="${x.toFixed(1)}" y="${y.toFixed(1)}" font-size="${Math.max(8, Math.min(22, 1.25 * round)).toFixed(1)}">${nameOf(body).replace(/&/g, "&amp;").replace(/</g, "&lt;")}</text>`);
+  return `<svg xmlns="http://www.w3.org/2000/svg" width="${width}" height="${height}" viewBox="0 0 ${width} ${height}">\n` +
+    `<g stroke="#24242a" stroke-width=".6" stroke-linejoin="round" stroke-linecap="round">\n${parts.join("\n")}\n</g>\n` +
+    '<g font-family="sans-serif" font-weight="bold" text-anchor="middle" dominant-baseline="central" paint-order="stroke" stroke="#fff" stroke-width="3" ' +
+    `stroke-linejoin="round">\n${names.join("\n")}\n</g>\n</svg>\n`;
+}
+
+// Hands a file to whoever looks at the page.
+function save(end, address) {
+  const link = document.createElement("a");
+  link.href = address;
+  link.download = "packing-" + (packing + 1) + "." + end;
+  link.click();
 }
 
 // Draws in the next frame; more finely once nothing has moved for a while.
@@ -232,7 +271,14 @@ function listen() {
   get("back").onclick = () => stepBy(-1);
   get("next").onclick = () => stepBy(1);
   get("through").onchange = event => chooseList(event.target.value);
-  get("apart").oninput = get("names").onchange = () => soon(true);
+  get("apart").oninput = get("names").onchange = get("ghosts").onchange = () => soon(true);
+  get("png").onclick = () => save("png", view.toDataURL("image/png"));
+  get("svg").onclick = () => save("svg", "data:image/svg+xml," + encodeURIComponent(svgOf()));
+  document.onkeydown = event => {
+    if (event.ctrlKey || event.metaKey || event.altKey || /^(INPUT|SELECT)$/.test(event.target.tagName) && event.target.type !== "checkbox") return;
+    if (event.key === "n") stepBy(1);
+    if (event.key === "p") stepBy(-1);
+  };
   get("upto").oninput = () => { sayLayers(); soon(true); };
   get("all").onclick = () => { hidden.clear(); chosen(); };
   get("none").onclick = () => { marks.forEach((_, body) => hidden.add(body)); chosen(); };
@@ -256,6 +302,8 @@ function begin() {
   const deep = sizeOf(DATA.cells)[2], first = +asked.get("packing");
   get("upto").max = get("upto").value = deep;
   get("layerslider").hidden = deep === 1;
+  // (a flat board is looked at from above)
+  get("turns").hidden = deep === 1;
   get("number").max = DATA.packings.length;
   get("total").textContent = DATA.packings.length;
   get("through").parentElement.hidden = !DATA.classes;

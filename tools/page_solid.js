@@ -114,13 +114,29 @@ class Picture {
       .map(pair => pair.map(axis => axis.map(it => it * this.unit * samples)));
     const colours = [0, 1, 2].map(() => new Float32Array(3 * faces.length + 3));
     faces.forEach((face, number) => {
-      const towards = face.way * this.axes[face.axis][2];
+      const towards = this.towards(face);
       const light = 0.66 + 0.34 * towards, paint = paints[face.body];
       for (let k = 0; k < 3; k++) colours[k].set([light * paint[k], 0.8 * light * paint[k], 26], 3 * number + 3);
       // (a face that looks away, or is seen from its side, shows nothing)
       if (towards > 1e-4) this.fill(this.corner(solid, face), edges[face.axis], face.sides, 3 * number + 3);
     });
     return this.gathered(colours);
+  }
+
+  // How much a face looks towards the eye, from -1 to 1.
+  towards(face) { return face.way * this.axes[face.axis][2]; }
+
+  // The corners of a face as points of the picture, in turn, and how near its middle is.
+  square(solid, face) {
+    const a = this.corner(solid, face), [u, v] = [0, 1, 2].filter(axis => axis !== face.axis).map(axis => this.axes[axis].map(it => it * this.unit * this.samples));
+    const at = (p, q) => [0, 1].map(k => (a[k] + p * u[k] + q * v[k]) / this.samples);
+    return {corners: [at(0, 0), at(1, 0), at(1, 1), at(0, 1)], depth: a[2] + (u[2] + v[2]) / 2};
+  }
+
+  // The sides of a face at which its piece ends, each as two points.
+  borders(solid, face) {
+    const [a, b, c, d] = this.square(solid, face).corners;
+    return [[a, d], [b, c], [a, b], [d, c]].filter((_, side) => !face.sides[side]);
   }
 
   // The corner of a face with the least coordinates, in samples.

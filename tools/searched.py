@@ -2,11 +2,14 @@
 far, and the covers found. Plain Python, NOT PROVED; it walks Algorithm X by sets of its own, and trusts the replies where it doesn't."""
 
 import functools
+import re
 
 from cells import DIGITS
 from colours import DISTANCES, PALETTE
 from frame import stop
 
+NUMBER = re.compile("[1-9][0-9]{0,8}")
+LABELS = ("X1", "X2", "X3", "X4", "X5", "X6", "X7", "X8", "Done")
 # So many steps of a search are walked here to draw its tree, with so many looks at an item and an option; what lies beyond is told as replied.
 WALKED, LOOKS = 5000, 50000000
 
@@ -181,30 +184,76 @@ class Tree:
             self.note((*path, str(cursor)), row, 4)
 
 
-def rows_of(lines):
-    """The commands of a transcript with their replies; a `show` that follows a command joins it. And the lines that tell the problem."""
-    rows, problem, options, is_puzzle = [], {"items": [], "maybe": []}, {}, False
-    for line in lines:
-        words = line.split()
-        if line.startswith("> "):
-            last = rows[-1] if rows else None
-            if words[1:] == ["show"] and last and not last.joins and moves(last.command, last.replies):
-                last.joins = True
+def spoilt(number, what):
+    """Ends the script: a line of a transcript isn't what tools/session prints."""
+    stop("line %d isn't what tools/session prints: %s" % (number, what))
+
+
+def check_state(number, words, options):
+    """Ends the script unless a line `at` tells a state: a label, a cursor, and the options taken, which are among those that were told."""
+    if len(words) < 3 or words[1] not in LABELS or not all(map(NUMBER.fullmatch, words[3:])):
+        spoilt(number, "`%s` tells no state" % " ".join(words)[:60])
+    if words[2] not in ("-", "past") and not NUMBER.fullmatch(words[2]):
+        spoilt(number, "`%s` is no cursor: these are `-`, `past`, and options" % words[2][:20])
+    strange = [word for word in words[2:] if word not in ("-", "past", *options)]
+    if options and strange:
+        spoilt(number, "there is no option %s: the problem has %d" % (strange[0], len(options)))
+
+
+def check_options(number, options):
+    """Ends the script unless the options that were told of a problem are all up to the last."""
+    missing = next((at for at in range(1, len(options) + 1) if str(at) not in options), None)
+    if missing:
+        spoilt(number, "the problem has no option %d before it, and has %d others" % (missing, len(options)))
+
+
+class Transcript:
+    """Reads what tools/session printed: the commands with their replies, where a `show` that follows a command joins it, and the lines that tell the
+    problem, and whether they tell all of it before the first command."""
+
+    def __init__(self, lines):
+        self.rows, self.problem, self.options, self.is_puzzle, self.is_whole = [], {"items": [], "maybe": []}, {}, False, False
+        for number, line in enumerate(lines, 1):
+            words = line.split()
+            if line.startswith("> "):
+                self.command(number, line, words)
+            elif line.startswith("#"):
+                self.comment(number, words)
+            elif not self.rows:
+                stop("this isn't what tools/session prints: no line `> COMMAND` comes first")
             else:
-                rows.append(Row(line[2:]))
-        elif line.startswith("#"):
-            if words[2:3] == ["="]:
-                options[words[1]] = " ".join(words[3:])
-            elif words[1:2] in (["items"], ["maybe"]):
-                problem[words[1]] = words[2:]
-            is_puzzle = is_puzzle or words[1:] == ["puzzle"]
-        elif not rows:
-            stop("this isn't what tools/session prints: no line `> COMMAND` comes first")
+                self.reply(number, line, words)
+        if not self.rows:
+            stop("no command was read: there is nothing to show")
+
+    def command(self, number, line, words):
+        """A line of a command."""
+        last = self.rows[-1] if self.rows else None
+        if last is None and self.problem["items"] and self.options:
+            check_options(number, self.options)
+            self.is_whole = True
+        if words[1:] == ["show"] and last and not last.joins and moves(last.command, last.replies):
+            last.joins = True
         else:
-            rows[-1].read(line)
-    if not rows:
-        stop("no command was read: there is nothing to show")
-    return rows, problem, options, is_puzzle
+            self.rows.append(Row(line[2:]))
+
+    def comment(self, number, words):
+        """A line of the problem, or of an option that a reply named."""
+        if words[2:3] == ["="]:
+            if not NUMBER.fullmatch(words[1]):
+                spoilt(number, "`%s` is no number of an option" % words[1][:20])
+            self.options[words[1]] = " ".join(words[3:])
+        elif words[1:2] in (["items"], ["maybe"]):
+            self.problem[words[1]] = words[2:]
+        self.is_puzzle = self.is_puzzle or words[1:] == ["puzzle"]
+
+    def reply(self, number, line, words):
+        """A line of a reply."""
+        if words[:1] == ["at"]:
+            check_state(number, words, self.options if self.is_whole else {})
+        if words[:1] == ["moved"] and len(words) == 2 and not re.fullmatch("[0-9]{1,20}", words[1]):
+            spoilt(number, "`%s` is no number of steps" % words[1][:20])
+        self.rows[-1].read(line)
 
 
 def walk_of(problem, options):
@@ -216,7 +265,8 @@ def walk_of(problem, options):
 
 def search_of(lines):
     """All that a page shows of a transcript."""
-    rows, problem, options, is_puzzle = rows_of(lines)
+    read = Transcript(lines)
+    rows, problem, options, is_puzzle = read.rows, read.problem, read.options, read.is_puzzle
     walk, tree, covers, shown, before = walk_of(problem, options), Tree(), [], [], None
     for at, row in enumerate(rows):
         told = row.settled()

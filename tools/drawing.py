@@ -1,0 +1,46 @@
+"""Packings drawn as `polylab solve` draws them, by the options that the search chose. Plain Python, NOT PROVED; it trusts the program for which
+options these are, and looks that it has the same options."""
+
+from cells import DIGITS, least_corner, shifted, size_of, word
+from frame import stop
+from packings import places_of
+from puzzles import Puzzle, placements
+
+
+class Drawing:
+    """Draws the packings of a puzzle text. `lines` are those of its problem, as a snapshot has them."""
+
+    def __init__(self, text, lines):
+        self.puzzle = Puzzle(text)
+        self.low = least_corner(self.puzzle.region)
+        self.size = size_of(shifted(self.puzzle.region, self.low, (0, 0, 0)))
+        # For each option the piece that it lays and its cells; spare copies that are left out lay none.
+        self.laid = [(piece, put) for piece in self.puzzle.pieces for put in placements(self.puzzle, piece)]
+        options = [line.split()[1:] for line in lines if line.startswith("option ")]
+        for (_, put), option in zip(self.laid, options):
+            if {word(place) for place in put} != {item for item in option if is_cell(item)}:
+                stop("an option of the program is another one here: %s" % " ".join(option)[:60])
+        if len(options) < len(self.laid) or any(is_cell(item) for option in options[len(self.laid) :] for item in option):
+            stop("the program has %d options, and here are %d ways to lay a piece" % (len(options), len(self.laid)))
+
+    def rows(self, options):
+        """The lines by which a packing is drawn, of the numbers of its options."""
+        marks, copies = dict.fromkeys(self.puzzle.region, "_"), {}
+        for number in options:
+            if number > len(self.laid):
+                continue
+            piece, put = self.laid[number - 1]
+            if piece.need == "any":
+                copies.setdefault(piece.symbols, []).append(put)
+            marks.update(dict.fromkeys(put, piece.name))
+        for symbols, puts in copies.items():
+            for turn, put in enumerate(sorted(puts)):
+                marks.update(dict.fromkeys(put, symbols[turn % len(symbols)]))
+        wide, high, deep = self.size
+        text = "".join(marks.get(place, ".") for place in shifted(places_of(self.size), (0, 0, 0), self.low))
+        return [" ".join(text[at : at + wide] for at in range(y * deep * wide, (y + 1) * deep * wide, wide)) for y in range(high)]
+
+
+def is_cell(item):
+    """Whether an item is a cell, and no piece or node of a tree."""
+    return len(item) == 3 and all(digit in DIGITS for digit in item)

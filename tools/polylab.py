@@ -8,7 +8,9 @@
     polylab.covers(text)                    # each exact cover of a cover text, also one by one, as a list of options; these are lists of items
     polylab.cover_text([[1, 2], [2, 3]])    # a cover text of options, whose items are numbers or short words
 
-A text that is refused raises Refused, which has the program's `status`, its `fault` and the `line` (0 for the whole text), and so does all else for which the program doesn't end with 0. PROGRAM names the program: that of POLYLAB, of the checkout or installation beside this file, or on the path."""
+A text that is refused raises Refused, which has the program's `status`, its `fault` and the `line` (0 for the whole text); so does all else for
+which the program doesn't end with 0. PROGRAM names the program: that of POLYLAB, of the checkout or installation beside this file, or the one
+on the path."""
 
 import collections
 import os

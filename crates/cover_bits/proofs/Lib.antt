@@ -8,5 +8,4 @@ pub mod TableLemmas
 pub mod ChooseLemmas
 pub mod TurnLemmas
 pub mod NewLemmas
-pub mod RuleLemmas
 mod BitExamples

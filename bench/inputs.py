@@ -99,8 +99,8 @@ def partitions(n):
 def latin(n):
     """Each cell has one number, each row and column has each number once."""
     square = range(n)
-    items = ["%s%d_%d" % (kind, one, other) for kind in ("cell", "row", "col") for one in square for other in square]
-    return cover_text(items, [["cell%d_%d" % (r, c), "row%d_%d" % (r, d), "col%d_%d" % (c, d)] for r in square for c in square for d in square])
+    items = ["%s%d_%d" % (kind, one, other) for kind in "crk" for one in square for other in square]
+    return cover_text(items, [["c%d_%d" % (r, c), "r%d_%d" % (r, d), "k%d_%d" % (c, d)] for r in square for c in square for d in square])
 
 
 def queens(n):

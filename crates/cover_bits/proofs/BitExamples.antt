@@ -6,7 +6,7 @@ use Rattle.cover_problem.proofs.CoverExamples.{small}
 use Rattle.cover_bits.specs.declared.sets.Part.{Part}
 use Rattle.cover_bits.specs.Parts.{words_for, in_row, in_parts, in_both, ones_of_both, shared_from, shared_below, to_come}
 use Rattle.cover_bits.specs.Bits.{row_at, is_left, in_columns, full_set}
-use Rattle.cover_bits.specs.Rule.{TablesFit, Suits}
+use Rattle.cover_bits.specs.Rule.{TablesFit}
 
 abbrev row : List ℕ
 row = 5 ∷ 0 ∷ 2 ∷ []
@@ -73,7 +73,3 @@ room_for_many = lit≤ tt
 
 no_room_for_more : TablesFit small 149797 → ⊥
 no_room_for_more room = omega arith
-
--- lists of two or three options don't suit bits
-short_lists : Suits small 1 → ⊥
-short_lists suits = let long = suits.1 in omega arith

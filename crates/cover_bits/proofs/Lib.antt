@@ -12,5 +12,4 @@ pub mod WriteLemmas
 pub mod GoneLemmas
 pub mod TurnLemmas
 pub mod NewLemmas
-pub mod RuleLemmas
 mod BitExamples

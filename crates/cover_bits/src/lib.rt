@@ -9,5 +9,5 @@ mod sets;
 mod table;
 mod walk;
 
-pub use rule::{has_room, suits};
+pub use rule::has_room;
 pub use table::BitTable;

@@ -13,3 +13,4 @@ pub mod Listed
 pub mod Ending
 pub mod Refusals
 pub mod Tables
+pub mod Searcher

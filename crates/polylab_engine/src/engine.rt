@@ -144,7 +144,7 @@ fn run<W: Workers, I: Source, O: Sink, F: Sink>(
     status(&ending)
 }
 
-/// A run by one worker, which returns. The table can be asked for; else the problem's shape chooses it.
+/// A run by one worker, which returns. The table can be asked for; else a short search chooses it.
 pub fn run_alone<I: Source, O: Sink, F: Sink>(
     alloc: Global,
     job: Job,

@@ -14,6 +14,7 @@ mod packed;
 mod report;
 mod resumption;
 mod search;
+mod searcher;
 mod stretch;
 mod tables;
 mod tally;

@@ -4,19 +4,18 @@ ghost use Rattle.x_steps.specs.StateValue.{at, done};
 ghost use Rattle.x_steps.specs.StateView.{state_value};
 ghost use Rattle.x_snapshot.specs.Snapshot.{IsSnapshot, at_state};
 ghost use Rattle.polylab_engine.specs.Stretch.{end_at};
+ghost use Rattle.polylab_engine.specs.Searcher.{stands};
 ghost use Rattle.polylab_engine.specs.Resumed.{branch_end, resume_output, stop_of, rest_text, snapshot_position, report_up_to};
-ghost use Rattle.cover_problem.specs.Answers.{Returns, ReturnsItems};
+ghost use Rattle.cover_problem.specs.Answers.{ReturnsItems};
 
 use crate::cover::report_text;
 use crate::report::Report;
+use crate::searcher::Searcher;
 use crate::stretch::search_on;
-use crate::tables::{TableKind, table_for};
-use cover_bits::BitTable;
-use cover_links::LinkTable;
-use cover_problem::Table;
+use crate::tables::TableKind;
 use std::alloc::{AllocError, Global};
 use x_snapshot::{Snapshot, write_snapshot};
-use x_steps::{AtFault, Cursor, Label, Machine, State};
+use x_steps::{Cursor, Label, State};
 use x_texts::VisitText;
 
 /// What `resume` writes of a snapshot: the report of the stretch from its state on, with the visits or without them, up to the end of
@@ -51,23 +50,15 @@ fn end_choices(snapshot: &Snapshot) -> &[u32]
     }
 }
 
-/// A machine of a snapshot's problem, at its state.
-fn machine_at<'p, T: Table>(
+/// A search at a snapshot's state.
+fn searcher_at<'p>(
     alloc: Global,
+    table: Option<TableKind>,
     snapshot: &'p Snapshot,
-) -> Result<Machine<'p, T>, AllocError>
-    ensures { Returns result (snapshot_position snapshot.now) }
+) -> Result<Searcher<'p>, AllocError>
+    ensures { IfOk result (λ s. stands s ≡ snapshot_position snapshot.now) }
 {
-    let problem = snapshot.problem();
-    let table = T::new(alloc, problem)?;
-    match Machine::at(alloc, problem, table, snapshot.state()) {
-        Ok(machine) => Ok(machine),
-        Err(refused) => match refused.fault {
-            AtFault::OutOfMemory => Err(AllocError),
-            // A snapshot's state is one of its problem's run.
-            AtFault::NotAState => unreachable!(),
-        },
-    }
+    Searcher::at(alloc, snapshot.problem(), table, snapshot.state())
 }
 
 /// The report of the stretch from a snapshot's state on, and the state where it stops.
@@ -81,26 +72,9 @@ fn stretch_of(
     ensures stop { IfOk result (λ r. state_value r.1 ≡ stop_of most snapshot.now) }
     ensures report { IfOk result (λ r. r.0 ≡ report_up_to lists snapshot.now (state_value r.1)) }
 {
-    match table_for(snapshot.problem(), 1, table) {
-        Some(TableKind::Links) => stretch_by::<LinkTable>(alloc, most, lists, snapshot),
-        Some(TableKind::Bits) => stretch_by::<BitTable>(alloc, most, lists, snapshot),
-        None => Err(AllocError),
-    }
-}
-
-/// The same by this table.
-fn stretch_by<T: Table>(
-    alloc: Global,
-    most: Option<u64>,
-    lists: bool,
-    snapshot: &Snapshot,
-) -> Result<(Report<VisitText>, State), AllocError>
-    ensures stop { IfOk result (λ r. state_value r.1 ≡ stop_of most snapshot.now) }
-    ensures report { IfOk result (λ r. r.0 ≡ report_up_to lists snapshot.now (state_value r.1)) }
-{
     snapshot.is_sound();
-    let machine = machine_at::<T>(alloc, snapshot)?;
-    let (report, stop) = search_on(alloc, machine, end_choices(snapshot), most, None, lists)?;
+    let searcher = searcher_at(alloc, table, snapshot)?;
+    let (report, stop) = search_on(alloc, searcher, end_choices(snapshot), most, None, lists)?;
     Ok((report, stop))
 }
 

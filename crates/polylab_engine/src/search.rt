@@ -8,6 +8,7 @@ ghost use Rattle.cover_problem.specs.Answers.{Returns};
 
 use crate::fault::JobFault;
 use crate::report::Report;
+use crate::searcher::Searcher;
 use crate::stretch::search_on;
 use crate::tables::{TableKind, table_for};
 use crate::visits::Visits;
@@ -19,9 +20,8 @@ use lab_pool::{Gate, run_pool};
 use std::alloc::{AllocError, Global};
 use std::sync::Wait;
 use std::thread::Threads;
-use x_steps::Machine;
 
-/// The report of one worker, who takes a machine through the run.
+/// The report of one worker, who takes a search through the run.
 pub fn search_alone<V: Visits>(
     alloc: Global,
     problem: &Problem,
@@ -30,27 +30,8 @@ pub fn search_alone<V: Visits>(
 ) -> Result<Report<V>, AllocError>
     ensures { Returns result (whole_report keeps problem.now) }
 {
-    match table_for(problem, 1, table) {
-        Some(TableKind::Links) => search_by::<LinkTable, V>(alloc, problem, keeps),
-        Some(TableKind::Bits) => search_by::<BitTable, V>(alloc, problem, keeps),
-        // Bit sets that would take more than they may end as want of memory does, and are not begun.
-        None => Err(AllocError),
-    }
-}
-
-/// The same by this table.
-fn search_by<T: Table, V: Visits>(
-    alloc: Global,
-    problem: &Problem,
-    keeps: bool,
-) -> Result<Report<V>, AllocError>
-    ensures { Returns result (whole_report keeps problem.now) }
-{
-    let table = T::new(alloc, problem)?;
-    let Ok(machine) = Machine::new(alloc, problem, table) else {
-        return Err(AllocError);
-    };
-    let (report, _) = search_on::<T, V>(alloc, machine, &[], None, None, keeps)?;
+    let searcher = Searcher::new(alloc, problem, table)?;
+    let (report, _) = search_on::<V>(alloc, searcher, &[], None, None, keeps)?;
     Ok(report)
 }
 
@@ -63,26 +44,8 @@ pub fn search_first<V: Visits>(
 ) -> Result<Report<V>, AllocError>
     ensures { IfOk result (IsFirstReport first problem.now) }
 {
-    match table_for(problem, 1, table) {
-        Some(TableKind::Links) => first_by::<LinkTable, V>(alloc, problem, first),
-        Some(TableKind::Bits) => first_by::<BitTable, V>(alloc, problem, first),
-        None => Err(AllocError),
-    }
-}
-
-/// The same by this table.
-fn first_by<T: Table, V: Visits>(
-    alloc: Global,
-    problem: &Problem,
-    first: u64,
-) -> Result<Report<V>, AllocError>
-    ensures { IfOk result (IsFirstReport first problem.now) }
-{
-    let table = T::new(alloc, problem)?;
-    let Ok(machine) = Machine::new(alloc, problem, table) else {
-        return Err(AllocError);
-    };
-    let (report, _) = search_on::<T, V>(alloc, machine, &[], None, Some(first), true)?;
+    let searcher = Searcher::new(alloc, problem, table)?;
+    let (report, _) = search_on::<V>(alloc, searcher, &[], None, Some(first), true)?;
     Ok(report)
 }
 
@@ -97,7 +60,7 @@ pub fn search_together<R: Threads + Wait + Sync, G: Gate>(
     ensures why { IfErr result (IsWantOrPool (MayRefuse crew.now.count)) }
 {
     // Each worker has a table of its own, so that the room for bit sets is asked for all of them.
-    match table_for(problem, crew.count, crew.table) {
+    match table_for(alloc, problem, crew.count, crew.table) {
         Some(TableKind::Links) => share_by::<LinkTable, R, G>(alloc, crew, problem, keeps),
         Some(TableKind::Bits) => share_by::<BitTable, R, G>(alloc, crew, problem, keeps),
         None => Err(JobFault::OutOfMemory),

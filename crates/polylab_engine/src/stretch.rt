@@ -6,13 +6,19 @@ ghost use Rattle.x_steps.specs.Steps.{Fits};
 ghost use Rattle.x_steps.specs.Walk.{IsAtCut, IsWalkOf, HasRoom};
 ghost use Rattle.x_branches.specs.RunOrder.{ComesBefore};
 ghost use Rattle.polylab_engine.specs.Stretch.{end_at, stop_from, report_from, IsAtEnd, state_at};
+ghost use Rattle.polylab_engine.specs.Searcher.{stands};
 
 use crate::report::Report;
+use crate::searcher::{AnyMachine, Searcher};
 use crate::tally::RunTally;
 use crate::visits::Visits;
 use cover_problem::Table;
 use std::alloc::{AllocError, Global};
-use x_steps::{Event, Label, Machine, State, Walk, no_counts};
+use x_steps::{Event, Machine, State, Walk, no_counts};
+
+/// How many steps a search takes before it is asked again which table it prefers: the first thousands of nodes, with some 8 steps each,
+/// can be of another kind than what follows.
+const BEFORE_ASKING: u32 = 128_000;
 
 /// How many steps the next walk may take: as many as there is room for, and no more than are left; none where all visits are there.
 fn pace_of(room: u32, left: Option<u64>, is_full: bool) -> u32
@@ -44,7 +50,7 @@ fn left_after(left: Option<u64>, taken: u32) -> Option<u64>
 
 /// Walks on, as a machine does, and not at Done: a walk of no step stands there, or at the cut of the choices `end`, or was to
 /// take none.
-fn walk_on<T: Table>(
+fn walk_machine<T: Table>(
     machine: &mut Machine<'_, T>,
     most: u32,
     end: &[u32],
@@ -68,50 +74,69 @@ fn walk_on<T: Table>(
     }
 }
 
-/// Takes a machine on, up to the end of a branch, which is the cut of these choices, or Done where there are none; or as many steps
+/// The same for a search by either table. Which one is asked for each walk alone, and not for each call of the table.
+fn walk_on(searcher: &mut Searcher<'_>, most: u32, end: &[u32], counts: &mut [u32]) -> Walk
+    requires levels { length counts.old ≡ length (stands searcher.old).problem.names + 1 }
+    requires room { HasRoom most counts.old }
+    ensures problem { (stands searcher.new).problem ≡ (stands searcher.old).problem }
+    ensures walk { IsWalkOf (stands searcher.old) (stands searcher.new) counts.old counts.new result }
+    ensures within { result.steps ≤ most }
+    ensures before { (i : ℕ) → i < result.steps → IsAtCut (state_at (stands searcher.old) i) end.now → ⊥ }
+    ensures none { result.steps ≡ 0 → (most ≡ 0) ⊎ IsAtEnd (stands searcher.new).state end.now }
+{
+    match &mut searcher.machine {
+        AnyMachine::Links(machine) => walk_machine(machine, most, end, counts),
+        AnyMachine::Bits(machine) => walk_machine(machine, most, end, counts),
+    }
+}
+
+/// Takes a search on, up to the end of a branch, which is the cut of these choices, or Done where there are none; or as many steps
 /// as are asked for, or up to the visit of the number `first`, where these come first. Answers the report of the stretch, which keeps
 /// the visits or not, and the state where it stops. Memory doesn't grow with the stretch, but for visits that are kept.
-pub fn search_on<T: Table, V: Visits>(
+pub fn search_on<V: Visits>(
     alloc: Global,
-    machine: Machine<'_, T>,
+    searcher: Searcher<'_>,
     end: &[u32],
     most: Option<u64>,
     first: Option<u64>,
     keeps: bool,
 ) -> Result<(Report<V>, State), AllocError>
-    requires end { Fits machine.problem (end_at end.now) }
-    requires not_past { ComesBefore machine.problem (end_at end.now) machine.state → ⊥ }
-    ensures stop { IfOk result (λ r. (first ≡ Some r.0.visited) ⊎ (state_value r.1 ≡ stop_from most machine.entry end.now)) }
+    requires end { Fits (stands searcher).problem (end_at end.now) }
+    requires not_past { ComesBefore (stands searcher).problem (end_at end.now) (stands searcher).state → ⊥ }
+    ensures stop { IfOk result (λ r. (first ≡ Some r.0.visited) ⊎ (state_value r.1 ≡ stop_from most (stands searcher.entry) end.now)) }
     ensures first { IfOk result (λ r. ForSome first (λ n. r.0.visited ≤ n)) }
-    ensures fits { IfOk result (λ r. Fits machine.entry.problem (state_value r.1)) }
-    ensures report { IfOk result (λ r. r.0 ≡ report_from keeps machine.entry (state_value r.1)) }
+    ensures fits { IfOk result (λ r. Fits (stands searcher.entry).problem (state_value r.1)) }
+    ensures report { IfOk result (λ r. r.0 ≡ report_from keeps (stands searcher.entry) (state_value r.1)) }
 {
-    let items = machine.problem().items();
-    let mut machine = machine;
+    searcher.stands_in_run();
+    let items = searcher.problem().items();
+    let mut searcher = searcher;
     let mut tally = RunTally::<V>::new(alloc, items)?;
     let mut counts = no_counts(alloc, items)?;
-    // The machine counts in 32 bits, which so many steps can't pass; then the counts go to totals without a bound.
-    let mut room = u32::MAX;
+    // The machine counts in 32 bits, which so many steps can't pass; then the counts go to totals without a bound. The first time
+    // that is soon, since then the table is asked for again.
+    let mut room = BEFORE_ASKING;
     let mut left = most;
     loop {
         let walk = walk_on(
-            &mut machine,
+            &mut searcher,
             pace_of(room, left, tally.is_full(first)),
             end,
             &mut counts,
         );
         if walk.steps == 0 {
             tally.add_counts(&counts)?;
-            let stop = machine.state().copy()?;
+            let stop = searcher.state().copy()?;
             return Ok((tally.report(alloc)?, stop));
         }
-        tally.note(keeps, walk, &machine.state().path)?;
+        tally.note(keeps, walk, &searcher.state().path)?;
         left = left_after(left, walk.steps);
         room -= walk.steps;
         if room == 0 {
             tally.add_counts(&counts)?;
             counts = no_counts(alloc, items)?;
             room = u32::MAX;
+            searcher = searcher.asked_again(alloc);
         }
     }
 }

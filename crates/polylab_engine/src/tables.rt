@@ -2,8 +2,12 @@
 ghost use Rattle.std.specs.Prelude.{None, Some};
 ghost use Rattle.polylab_engine.specs.Tables.{IsTableFor};
 
-use cover_bits::{has_room, suits};
+use crate::searcher::{first_state, machine_at};
+use cover_bits::has_room;
+use cover_links::LinkTable;
 use cover_problem::Problem;
+use std::alloc::Global;
+use table_probe::prefers_bits;
 
 /// The tables that a search can have. What is found, and in which order, doesn't depend on it.
 #[derive(Clone, Copy, Debug, PartialEq, Eq)]
@@ -14,11 +18,23 @@ pub enum TableKind {
     Bits,
 }
 
-/// The table that suits the shape of a problem, which so many workers search.
-fn suited(problem: &Problem, workers: u32) -> TableKind
+/// Whether a short search from the start of a problem's run prefers bit sets; not where there is no memory for it.
+fn start_prefers_bits(alloc: Global, problem: &Problem) -> bool {
+    match machine_at::<LinkTable>(alloc, problem, &first_state(alloc)) {
+        Ok(machine) => {
+            let mut machine = machine;
+            prefers_bits(alloc, &mut machine)
+        }
+        Err(_) => false,
+    }
+}
+
+/// The table that so many workers search a problem by where none is asked for.
+fn preferred(alloc: Global, problem: &Problem, workers: u32) -> TableKind
     ensures { IsTableFor problem.now workers None (Some result) }
 {
-    if suits(problem, workers) {
+    // Where bits have no room there is nothing to ask.
+    if has_room(problem, workers) && start_prefers_bits(alloc, problem) {
         TableKind::Bits
     } else {
         TableKind::Links
@@ -36,13 +52,18 @@ fn bits_in_room(problem: &Problem, workers: u32) -> Option<TableKind>
     }
 }
 
-/// The table of a search by so many workers: the one that is asked for, or else the one that suits the problem. None where bit sets
-/// are asked for and would take more memory than they may.
-pub fn table_for(problem: &Problem, workers: u32, asked: Option<TableKind>) -> Option<TableKind>
+/// The table of a search by so many workers: the one that is asked for, or else the one that a short search prefers. None where bit
+/// sets are asked for and would take more memory than they may.
+pub fn table_for(
+    alloc: Global,
+    problem: &Problem,
+    workers: u32,
+    asked: Option<TableKind>,
+) -> Option<TableKind>
     ensures { IsTableFor problem.now workers asked result }
 {
     match asked {
-        None => Some(suited(problem, workers)),
+        None => Some(preferred(alloc, problem, workers)),
         Some(TableKind::Bits) => bits_in_room(problem, workers),
         // Links are linear in the problem, which the reader has bounded.
         Some(TableKind::Links) => Some(TableKind::Links),

@@ -26,7 +26,7 @@ pub struct Crew<'a, R, G> {
     pub gate: &'a G,
     /// How many they are, 1 to 32.
     pub count: u32,
-    /// The table that was asked for, if one was; else the problem's shape chooses it.
+    /// The table that was asked for, if one was; else a short search chooses it.
     pub table: Option<TableKind>,
 }
 

@@ -57,9 +57,9 @@ With --first N the search stops at the N-th cover, if there are so many: the
 first N are printed as above, and then the line `first N`. One worker finds them.
 
 With --workers N, N threads share the search; what is printed is the same.
---table links takes dancing links and --table bits bit sets, where the shape of
-the problem chooses else; what is printed is the same. Bit sets of more than
-25 MB are refused as memory is.
+--table links takes dancing links and --table bits bit sets, where a short
+search chooses else; what is printed is the same. Bit sets of more than 25 MB
+are refused as memory is.
 
 Exit statuses: 0 done, 2 command line refused, 3 text refused, 4 no memory or
 workers not done, 5 reading or writing failed.",

@@ -17,7 +17,7 @@ pub struct Request {
     pub job: Job,
     /// How many threads do it, 1 to 32.
     pub workers: u32,
-    /// The table that was named; None where the shape of the problem chooses.
+    /// The table that was named; None where a short search chooses.
     pub table: Option<TableKind>,
 }
 

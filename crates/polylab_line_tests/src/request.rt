@@ -3,7 +3,7 @@
 use polylab_engine::Job;
 use polylab_line::Request;
 
-/// A job of so many workers, by the table that suits the problem.
+/// A job of so many workers, by the table that a short search prefers.
 pub fn shared(job: Job, workers: u32) -> Request {
     Request {
         job,

@@ -1,5 +1,5 @@
-//! Tests of `x_steps`, `cover_links` and `cover_bits`: the table of nodes and its memory, the worked example, each refusal, the rule that
-//! tells which table a run takes, and drawn problems, alone and side by side over three tables.
+//! Tests of `x_steps`, `cover_links`, `cover_bits` and `table_probe`: the table of nodes and its memory, the worked example, each refusal,
+//! which table a search prefers, and drawn problems, alone and side by side over three tables.
 #![tactic(auto)]
 
 #[cfg(test)]
@@ -12,6 +12,8 @@ mod lockstep_tests;
 mod machine_tests;
 #[cfg(test)]
 mod memory_tests;
+#[cfg(test)]
+mod probe_tests;
 #[cfg(test)]
 mod rule_tests;
 #[cfg(test)]

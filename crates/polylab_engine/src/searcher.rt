@@ -1,0 +1,202 @@
+//! A search by one of the tables. Where none was asked for it may go on by the other one.
+ghost use Rattle.std.specs.Prelude.{◌≡◌, IfOk};
+ghost use Rattle.cover_problem.specs.Answers.{Returns};
+ghost use Rattle.cover_problem.specs.Problem.{IsProblem};
+ghost use Rattle.x_steps.specs.StateValue.{start};
+ghost use Rattle.x_steps.specs.StateView.{state_value, IsState};
+ghost use Rattle.x_steps.specs.Steps.{Fits};
+ghost use Rattle.x_steps.specs.Resume.{position};
+ghost use Rattle.polylab_engine.specs.Searcher.{place_of, stands};
+
+use crate::tables::TableKind;
+use cover_bits::{BitTable, has_room};
+use cover_links::LinkTable;
+use cover_problem::{Problem, Table};
+use std::alloc::{AllocError, Global};
+use table_probe::prefers_bits;
+use x_steps::{AtFault, Cursor, Label, Machine, State};
+
+/// A machine with one of the tables.
+#[derive(Drop)]
+pub enum AnyMachine<'p> {
+    Links(Machine<'p, LinkTable>),
+    Bits(Machine<'p, BitTable>),
+}
+
+/// A search that is taken on by one worker.
+#[derive(Drop)]
+pub struct Searcher<'p> {
+    pub machine: AnyMachine<'p>,
+    /// Whether no table was asked for.
+    pub is_free: bool,
+}
+
+/// A machine at a state of a problem's search.
+pub fn machine_at<'p, T: Table>(
+    alloc: Global,
+    problem: &'p Problem,
+    state: &State,
+) -> Result<Machine<'p, T>, AllocError>
+    requires { IsState problem.now state.now }
+    ensures { Returns result (position problem.now (state_value state.now)) }
+{
+    let table = T::new(alloc, problem)?;
+    match Machine::at(alloc, problem, table, state) {
+        Ok(machine) => Ok(machine),
+        Err(refused) => match refused.fault {
+            AtFault::OutOfMemory => Err(AllocError),
+            // As `requires` says, the state is one of the problem's run.
+            AtFault::NotAState => unreachable!(),
+        },
+    }
+}
+
+/// The first state of a search.
+pub fn first_state(alloc: Global) -> State
+    ensures { state_value result ≡ start }
+{
+    State {
+        label: Label::X1,
+        path: Vec::new(alloc),
+        cursor: Cursor::None,
+    }
+}
+
+/// Goes on by bits at the same state, where there is memory for them.
+fn by_bits(alloc: Global, links: Machine<'_, LinkTable>) -> AnyMachine<'_>
+    ensures { place_of result ≡ links.entry }
+{
+    match machine_at::<BitTable>(alloc, links.problem(), links.state()) {
+        Ok(bits) => AnyMachine::Bits(bits),
+        Err(_) => AnyMachine::Links(links),
+    }
+}
+
+/// By bits where they have room and a short search from here on prefers them, or else by links.
+fn preferred(alloc: Global, links: Machine<'_, LinkTable>) -> AnyMachine<'_>
+    ensures { place_of result ≡ links.entry }
+{
+    let mut links = links;
+    // The short search goes back, so that no table is made again where links are taken.
+    if has_room(links.problem(), 1) && prefers_bits(alloc, &mut links) {
+        by_bits(alloc, links)
+    } else {
+        AnyMachine::Links(links)
+    }
+}
+
+/// By links where a short search from here on prefers them and there is memory for them, or else by bits.
+fn preferred_again(alloc: Global, bits: Machine<'_, BitTable>) -> AnyMachine<'_>
+    ensures { place_of result ≡ bits.entry }
+{
+    // Links tell what either table would pay. Bits could too, but the short search is to cost little where links are better.
+    let Ok(links) = machine_at::<LinkTable>(alloc, bits.problem(), bits.state()) else {
+        return AnyMachine::Bits(bits);
+    };
+    let mut links = links;
+    if prefers_bits(alloc, &mut links) {
+        AnyMachine::Bits(bits)
+    } else {
+        AnyMachine::Links(links)
+    }
+}
+
+/// By the table that is asked for, or else by the one that is preferred there. Bits that would take more than they may end as want of
+/// memory does, and are not begun.
+fn any_at<'p>(
+    alloc: Global,
+    problem: &'p Problem,
+    table: Option<TableKind>,
+    state: &State,
+) -> Result<AnyMachine<'p>, AllocError>
+    requires { IsState problem.now state.now }
+    ensures { IfOk result (λ m. place_of m ≡ position problem.now (state_value state.now)) }
+{
+    match table {
+        None => Ok(preferred(alloc, machine_at(alloc, problem, state)?)),
+        Some(TableKind::Links) => Ok(AnyMachine::Links(machine_at(alloc, problem, state)?)),
+        Some(TableKind::Bits) => {
+            if !has_room(problem, 1) {
+                return Err(AllocError);
+            }
+            Ok(AnyMachine::Bits(machine_at(alloc, problem, state)?))
+        }
+    }
+}
+
+impl<'p> Searcher<'p> {
+    /// A search at a state of a problem's run, by the table that is asked for, if one is.
+    pub fn at(
+        alloc: Global,
+        problem: &'p Problem,
+        table: Option<TableKind>,
+        state: &State,
+    ) -> Result<Searcher<'p>, AllocError>
+        requires { IsState problem.now state.now }
+        ensures { IfOk result (λ s. stands s ≡ position problem.now (state_value state.now)) }
+    {
+        let machine = any_at(alloc, problem, table, state)?;
+        Ok(Searcher {
+            machine,
+            is_free: table.is_none(),
+        })
+    }
+
+    /// A search at the start of a problem's run.
+    pub fn new(
+        alloc: Global,
+        problem: &'p Problem,
+        table: Option<TableKind>,
+    ) -> Result<Searcher<'p>, AllocError>
+        ensures { IfOk result (λ s. stands s ≡ position problem.now start) }
+    {
+        let state = first_state(alloc);
+        Searcher::at(alloc, problem, table, &state)
+    }
+
+    /// The same search, by the table that is preferred from here on, where none was asked for.
+    pub fn asked_again(self, alloc: Global) -> Searcher<'p>
+        ensures { stands result ≡ stands self.entry }
+    {
+        let Searcher { machine, is_free } = self;
+        if !is_free {
+            return Searcher { machine, is_free };
+        }
+        let machine = match machine {
+            AnyMachine::Links(links) => preferred(alloc, links),
+            AnyMachine::Bits(bits) => preferred_again(alloc, bits),
+        };
+        Searcher { machine, is_free }
+    }
+
+    /// The search is at a state of its problem's run.
+    pub fn stands_in_run(&self)
+        ensures fits { Fits (stands self.now).problem (stands self.now).state }
+        ensures problem { IsProblem (stands self.now).problem }
+    {
+        // Where the state is read, what a machine keeps true is known.
+        let _state = self.state();
+    }
+
+    /// The problem that is searched.
+    pub fn problem(&self) -> &'p Problem
+        ensures { result.now ≡ (stands self.now).problem }
+    {
+        match &self.machine {
+            AnyMachine::Links(machine) => machine.problem(),
+            AnyMachine::Bits(machine) => machine.problem(),
+        }
+    }
+
+    /// Where the search stands.
+    pub fn state(&self) -> &State
+        ensures state { state_value result.now ≡ (stands self.now).state }
+        ensures fits { Fits (stands self.now).problem (stands self.now).state }
+        ensures problem { IsProblem (stands self.now).problem }
+    {
+        match &self.machine {
+            AnyMachine::Links(machine) => machine.state(),
+            AnyMachine::Bits(machine) => machine.state(),
+        }
+    }
+}

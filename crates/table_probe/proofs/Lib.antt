@@ -1,0 +1,3 @@
+pub mod WalkLemmas
+mod StepLemmas
+mod CostExamples

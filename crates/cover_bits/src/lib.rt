@@ -1,4 +1,4 @@
-//! Bit sets: a table of an exact cover problem that keeps the options left as sets of bits, and the rule that tells whether a run takes it.
+//! Bit sets: a table of an exact cover problem that keeps the options left as sets of bits, and whether those of all workers have room.
 #![tactic(auto)]
 
 mod lists;

@@ -14,8 +14,9 @@ LETTERS = "0123456789ABCDEFGHIJKLMNOPQRSTUVWXYZabcdefghijklmnopqrstuvwxyz"
 # Burnside's lemma there are (31,529 + 41 + 821 + 93) / 4 classes.
 TILINGS, CLASSES = {(6, 6): 6728, (7, 6): 31529}, 8121
 SCRIPTS = ("draw_packings 5", "one_of_each", "unique", "unique --given", "page")
-# So many bytes may be taken for one packing more. A dict for each packing takes some 4,500 of 42 cells.
-MOST = 60
+# So many bytes may be taken for one packing more: one number for its class and one for its drawing, since no puzzle is given here. A dict for each
+# packing takes some 4,500 of 42 cells.
+MOST = 80
 
 
 def tilings(wide, high):

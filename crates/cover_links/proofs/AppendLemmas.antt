@@ -3,7 +3,7 @@ use Rattle.std.proofs.Common.{◌≡◌, ℕ, zero, suc, ◌+◌, ◌*◌, ◌<�
 use Rattle.std.proofs.lemmas.Bool.{cases_eq, cases_lt}
 use Rattle.cover_problem.specs.Lists.{numbers, last_of}
 use Rattle.cover_problem.specs.Problem.{ProblemValue, IsProblem, size_of}
-use Rattle.cover_links.specs.declared.entry.Entry.{Entry}
+use Rattle.cover_links.specs.declared.entry.TableEntry.{TableEntry}
 use Rattle.cover_links.specs.Entries.{entry_at, low_half, high_half, next_bytes, changed, one_more, to_up, to_down, relinked}
 use Rattle.cover_links.specs.Hiding.{node_unhidden}
 use Rattle.cover_links.specs.Fresh.{node_written, node_appended}
@@ -19,7 +19,7 @@ use Rattle.cover_links.proofs.HidingLemmas.{down_at, up_at, left_at, right_at, t
 use Rattle.std.specs.Cmp.{both_ways as same_test}
 
 -- a block with the nodes that are shown, while it is built
-pub record Grows (p : ProblemValue) (shown : ℕ → ℕ → Bool) (active : ℕ → Bool) (es : List Entry) : Type 0 where
+pub record Grows (p : ProblemValue) (shown : ℕ → ℕ → Bool) (active : ℕ → Bool) (es : List TableEntry) : Type 0 where
   pub size : length es ≡ size_of p
   pub header : top_at es 0 ≡ 0
   pub shown_are : (j k : ℕ) → shown j k ≡ true → IsNode p j k
@@ -55,19 +55,19 @@ module _ (t t' : ℕ → ℕ → Bool) (j k : ℕ) (a : Adds t t' j k) where
       pick m ne (inr h) = h
 
 -- what is written at one entry
-pub at_set : (es : List Entry) (x : ℕ) (e : Entry) → x < length es → entry_at (set es x e) x ≡ e
+pub at_set : (es : List TableEntry) (x : ℕ) (e : TableEntry) → x < length es → entry_at (set es x e) x ≡ e
 at_set [] x e lt = absurd (omega arith)
 at_set (y ∷ es) zero e lt = refl
 at_set (y ∷ es) (suc x) e lt = at_set es x e (omega arith)
 
-pub set_other : (es : List Entry) (x y : ℕ) (e : Entry) → (y ≡ x → ⊥) → entry_at (set es x e) y ≡ entry_at es y
+pub set_other : (es : List TableEntry) (x y : ℕ) (e : TableEntry) → (y ≡ x → ⊥) → entry_at (set es x e) y ≡ entry_at es y
 set_other [] x y e ne = refl
 set_other (z ∷ es) zero zero e ne = absurd (ne refl)
 set_other (z ∷ es) zero (suc y) e ne = refl
 set_other (z ∷ es) (suc x) zero e ne = refl
 set_other (z ∷ es) (suc x) (suc y) e ne = set_other es x y e (λ h. ne (ap suc h))
 
-module _ (p : ProblemValue) (active : ℕ → Bool) (problem : IsProblem p) (t t' : ℕ → ℕ → Bool) (es : List Entry) (g : Grows p t active es) (j k : ℕ) (pos : 0 < j) (le : j ≤ length p.names) (node : IsNode p j k) (a : Adds t t' j k) where
+module _ (p : ProblemValue) (active : ℕ → Bool) (problem : IsProblem p) (t t' : ℕ → ℕ → Bool) (es : List TableEntry) (g : Grows p t active es) (j k : ℕ) (pos : 0 < j) (le : j ≤ length p.names) (node : IsNode p j k) (a : Adds t t' j k) where
   abbrev x : ℕ
   x = node_index p j k
 
@@ -115,7 +115,7 @@ module _ (p : ProblemValue) (active : ℕ → Bool) (problem : IsProblem p) (t t
   u_apart h = ring_apart j le z last_one.from (sym u_is ∙ h)
 
   -- the block with the new node written
-  abbrev fs : List Entry
+  abbrev fs : List TableEntry
   fs = node_written es x j next
 
   fs_length : length fs ≡ length es
@@ -131,26 +131,26 @@ module _ (p : ProblemValue) (active : ℕ → Bool) (problem : IsProblem p) (t t
   j_apart h = let w = x_high in absurd (omega arith)
 
   -- the head's list is one longer
-  abbrev hs : List Entry
+  abbrev hs : List TableEntry
   hs = changed one_more fs j
 
   hs_up : up_at hs x ≡ up_at es j
-  hs_up = kept (λ e. e.up) one_more (λ e. refl) fs j x ∙ ap (λ (e : Entry). e.up) fs_here
+  hs_up = kept (λ e. e.up) one_more (λ e. refl) fs j x ∙ ap (λ (e : TableEntry). e.up) fs_here
 
   hs_down : down_at hs x ≡ j
-  hs_down = kept (λ e. e.down) one_more (λ e. refl) fs j x ∙ ap (λ (e : Entry). e.down) fs_here
+  hs_down = kept (λ e. e.down) one_more (λ e. refl) fs j x ∙ ap (λ (e : TableEntry). e.down) fs_here
 
   hs_length : length hs ≡ length es
   hs_length = length-changed one_more fs j ∙ fs_length
 
   -- and its neighbours name the node
-  abbrev ks : List Entry
+  abbrev ks : List TableEntry
   ks = changed (to_up x) (changed (to_down x) hs (up_at es j)) j
 
   unhidden_is : node_unhidden fs x ≡ ks
   unfolding node_unhidden relinked
   unhidden_is =
-      ap (λ (e : Entry). relinked (changed one_more fs e.top) x) fs_here ∙ (λ v. changed (to_up x) (changed (to_down x) hs (hs_up v)) (hs_down v))
+      ap (λ (e : TableEntry). relinked (changed one_more fs e.top) x) fs_here ∙ (λ v. changed (to_up x) (changed (to_down x) hs (hs_up v)) (hs_down v))
 
   appended_is : node_appended es x j next ≡ ks
   unfolding node_appended
@@ -178,14 +178,14 @@ module _ (p : ProblemValue) (active : ℕ → Bool) (problem : IsProblem p) (t t
   ks_bytes y = λ v. ks_left y v + ks_right y v * 65536
 
   ks_top : (y : ℕ) → (y ≡ j → ⊥) → top_at ks y ≡ top_at fs y
-  ks_top y ne = joined_kept vertical hs (up_at es j) x j x (λ e. e.top) (λ n e. refl) (λ n e. refl) y ∙ ap (λ (e : Entry). e.top) (at_other one_more fs j y ne)
+  ks_top y ne = joined_kept vertical hs (up_at es j) x j x (λ e. e.top) (λ n e. refl) (λ n e. refl) y ∙ ap (λ (e : TableEntry). e.top) (at_other one_more fs j y ne)
 
   ks_head : top_at ks j ≡ top_at es j + 1
-  ks_head = joined_kept vertical hs (up_at es j) x j x (λ e. e.top) (λ n e. refl) (λ n e. refl) j ∙ ap (λ (e : Entry). e.top) (at_changed one_more fs j (subst (λ n. j < n) (sym fs_length) j_low)) ∙ ap (λ (e : Entry). e.top + 1) (fs_other j j_apart)
+  ks_head = joined_kept vertical hs (up_at es j) x j x (λ e. e.top) (λ n e. refl) (λ n e. refl) j ∙ ap (λ (e : TableEntry). e.top) (at_changed one_more fs j (subst (λ n. j < n) (sym fs_length) j_low)) ∙ ap (λ (e : TableEntry). e.top + 1) (fs_other j j_apart)
 
   -- links side by side that are neither before nor after the new node
   side : (b d : ℕ) → (b ≡ x → ⊥) → (d ≡ x → ⊥) → (b ≡ up_at es j → ⊥) → (d ≡ j → ⊥) → down_at es b ≡ d → up_at es d ≡ b → (down_at ks b ≡ d) × (up_at ks d ≡ b)
-  side b d nb nd nu nj f h = (ks_down b nu ∙ ap (λ (e : Entry). e.down) (fs_other b nb) ∙ f, ks_up d nj ∙ ap (λ (e : Entry). e.up) (fs_other d nd) ∙ h)
+  side b d nb nd nu nj f h = (ks_down b nu ∙ ap (λ (e : TableEntry). e.down) (fs_other b nb) ∙ f, ks_up d nj ∙ ap (λ (e : TableEntry). e.up) (fs_other d nd) ∙ h)
 
   target : (i m : ℕ) (y : ℕ) → IsNext (t i) m y → (y ≡ 0) ⊎ (t i y ≡ true)
   target i m y (inl n) = inr n.0
@@ -235,7 +235,7 @@ module _ (p : ProblemValue) (active : ℕ → Bool) (problem : IsProblem p) (t t
       -- after the new node the ring closes
       at_end : m ≡ k → (y ≡ 0) → (down_at ks (node_index p j m) ≡ node_index p j y) × (up_at ks (node_index p j y) ≡ node_index p j m)
       at_end e e' = (
-        (λ v. down_at ks (node_index p j (e v))) ∙ ks_down x (λ h. u_apart (sym h)) ∙ ap (λ (w : Entry). w.down) fs_here ∙ (λ v. node_index p j (sym e' v)),
+        (λ v. down_at ks (node_index p j (e v))) ∙ ks_down x (λ h. u_apart (sym h)) ∙ ap (λ (w : TableEntry). w.down) fs_here ∙ (λ v. node_index p j (sym e' v)),
         (λ v. up_at ks (node_index p j (e' v))) ∙ ks_up_j ∙ (λ v. node_index p j (sym e v)),
       )
 
@@ -244,7 +244,7 @@ module _ (p : ProblemValue) (active : ℕ → Bool) (problem : IsProblem p) (t t
       at_new fr most e =
           let q = g.rings j pos le m 0 (record { from = fr; to = inr (refl, most) }) in (
             ap (down_at ks) (sym q.1) ∙ ks_down_u ∙ (λ v. node_index p j (sym e v)),
-            (λ v. up_at ks (node_index p j (e v))) ∙ ks_up x (λ h. j_apart (sym h)) ∙ ap (λ (w : Entry). w.up) fs_here ∙ q.1,
+            (λ v. up_at ks (node_index p j (e v))) ∙ ks_up x (λ h. j_apart (sym h)) ∙ ap (λ (w : TableEntry). w.up) fs_here ∙ q.1,
           )
 
       inner : (m ≡ 0) ⊎ (t j m ≡ true) → t j y ≡ true → m < y → ((n : ℕ) → t j n ≡ true → m < n → y ≤ n) → (down_at ks (node_index p j m) ≡ node_index p j y) × (up_at ks (node_index p j y) ≡ node_index p j m)
@@ -277,7 +277,7 @@ module _ (p : ProblemValue) (active : ℕ → Bool) (problem : IsProblem p) (t t
       sym (count_without (t' j) k (length p.options) 1 a.comes node.some (let w = node.within in omega arith))
       ∙ ap (λ (f : ℕ → Bool). suc (length (filter f (numbers (length p.options) 1)))) (added_without t t' j k a)
 
-  old_plain : (π : Entry → ℕ) → ((y : ℕ) → (y ≡ j → ⊥) → π (entry_at ks y) ≡ π (entry_at fs y)) → (i m : ℕ) → t i m ≡ true → π (entry_at ks (node_index p i m)) ≡ π (entry_at es (node_index p i m))
+  old_plain : (π : TableEntry → ℕ) → ((y : ℕ) → (y ≡ j → ⊥) → π (entry_at ks y) ≡ π (entry_at fs y)) → (i m : ℕ) → t i m ≡ true → π (entry_at ks (node_index p i m)) ≡ π (entry_at es (node_index p i m))
   old_plain π h i m s =
       let w = place_high p i m (g.shown_are i m s) in
       h (node_index p i m) (λ e. absurd (omega arith)) ∙ ap π (fs_other (node_index p i m) (λ e. new_one e))
@@ -295,11 +295,11 @@ module _ (p : ProblemValue) (active : ℕ → Bool) (problem : IsProblem p) (t t
   ks_grows : Grows p t' active ks
   ks_grows = record {
     size = length-joined vertical hs (up_at es j) x j x ∙ hs_length ∙ g.size;
-    header = ks_top 0 (λ e. absurd (omega arith)) ∙ ap (λ (e : Entry). e.top) (fs_other 0 (λ e. let w = x_high in absurd (omega arith))) ∙ g.header;
+    header = ks_top 0 (λ e. absurd (omega arith)) ∙ ap (λ (e : TableEntry). e.top) (fs_other 0 (λ e. let w = x_high in absurd (omega arith))) ∙ g.header;
     shown_are = each (λ i m. IsNode p i m) node g.shown_are;
     rings = λ i b d. ring_of i b d (cases_eq i j);
     counts = λ i b d. count_of i b d (cases_eq i j);
-    tops = each (λ i m. top_at ks (node_index p i m) ≡ i) (ks_top x (λ e. j_apart (sym e)) ∙ ap (λ (e : Entry). e.top) fs_here) (λ i m s. old_plain (λ e. e.top) ks_top i m s ∙ g.tops i m s);
+    tops = each (λ i m. top_at ks (node_index p i m) ≡ i) (ks_top x (λ e. j_apart (sym e)) ∙ ap (λ (e : TableEntry). e.top) fs_here) (λ i m s. old_plain (λ e. e.top) ks_top i m s ∙ g.tops i m s);
     nexts = each (λ i m. bytes_at ks (node_index p i m) ≡ next_place p i m * 16)
         (ks_bytes x ∙ ap next_bytes fs_here ∙ halves_join next)
         (λ i m s. old_plain next_bytes (λ y ne. ks_bytes y) i m s ∙ g.nexts i m s);
@@ -318,14 +318,14 @@ module _ (p : ProblemValue) (active : ℕ → Bool) (problem : IsProblem p) (t t
           let own : top_at ks j ≡ length (filter (t' j) (numbers (length p.options) 1)) = omega arith in
           subst (λ n. top_at ks n ≡ length (filter (t' n) (numbers (length p.options) 1))) (sym e) own
       count_of i b d (inr ne) =
-          ks_top i ne ∙ ap (λ (e : Entry). e.top) (fs_other i (λ e. let w = x_high in absurd (omega arith))) ∙ g.counts i b d
+          ks_top i ne ∙ ap (λ (e : TableEntry). e.top) (fs_other i (λ e. let w = x_high in absurd (omega arith))) ∙ g.counts i b d
           ∙ ap (λ (f : ℕ → Bool). length (filter f (numbers (length p.options) 1))) (sym (added_other t t' j k a i ne))
 
       row_right : (m : ℕ) → m ≤ length p.names → right_at ks m ≡ right_at es m
-      row_right m b = ks_right m ∙ ap (λ (e : Entry). e.right) (fs_other m (λ e. let w = x_high in absurd (omega arith)))
+      row_right m b = ks_right m ∙ ap (λ (e : TableEntry). e.right) (fs_other m (λ e. let w = x_high in absurd (omega arith)))
 
       row_left : (m : ℕ) → m ≤ length p.names → left_at ks m ≡ left_at es m
-      row_left m b = ks_left m ∙ ap (λ (e : Entry). e.left) (fs_other m (λ e. let w = x_high in absurd (omega arith)))
+      row_left m b = ks_left m ∙ ap (λ (e : TableEntry). e.left) (fs_other m (λ e. let w = x_high in absurd (omega arith)))
 
       row_low : {m : ℕ} → (m ≡ 0) ⊎ (active m ≡ true) → m ≤ length p.names
       row_low (inl e) = omega arith
@@ -340,14 +340,14 @@ module _ (p : ProblemValue) (active : ℕ → Bool) (problem : IsProblem p) (t t
 
   -- what stood elsewhere stays, but for the neighbours and the head
   pub append_keeps : (y : ℕ) → length p.names < y → (y ≡ x → ⊥) → top_at (node_appended es x j next) y ≡ top_at es y
-  append_keeps y h ne = ap (λ n. top_at n y) appended_is ∙ ks_top y (λ e. absurd (omega arith)) ∙ ap (λ (e : Entry). e.top) (fs_other y ne)
+  append_keeps y h ne = ap (λ n. top_at n y) appended_is ∙ ks_top y (λ e. absurd (omega arith)) ∙ ap (λ (e : TableEntry). e.top) (fs_other y ne)
 
   pub append_blank : (y : ℕ) → (y ≡ x → ⊥) → bytes_at (node_appended es x j next) y ≡ bytes_at es y
   append_blank y ne = ap (λ n. bytes_at n y) appended_is ∙ ks_bytes y ∙ ap next_bytes (fs_other y ne)
 
   pub append_can : CanAppendNode es x j next
   append_can =
-      let top : (entry_at fs x).top ≡ j = ap (λ (e : Entry). e.top) fs_here in
+      let top : (entry_at fs x).top ≡ j = ap (λ (e : TableEntry). e.top) fs_here in
       let here : x < length fs = subst (λ n. x < n) (sym fs_length) x_low in
       let head : j < length fs = subst (λ n. j < n) (sym fs_length) j_low in
       record {
@@ -358,7 +358,7 @@ module _ (p : ProblemValue) (active : ℕ → Bool) (problem : IsProblem p) (t t
         into = record {
           here = here;
           item = subst (λ n. n < length fs) (sym top) head;
-          small = subst (λ n. top_at fs n + 1 < 2 ^ 28) (sym top) (let e = ap (λ (w : Entry). w.top) (fs_other j j_apart) in let c = g.counts j pos le in let f = few p (t j) problem in omega arith);
+          small = subst (λ n. top_at fs n + 1 < 2 ^ 28) (sym top) (let e = ap (λ (w : TableEntry). w.top) (fs_other j j_apart) in let c = g.counts j pos le in let f = few p (t j) problem in omega arith);
           inside = subst (λ n. IsInside (changed one_more fs n) x) (sym top) (record {
             here = subst (λ n. x < n) (sym (length-changed one_more fs j)) here;
             above = subst (λ n. n < length hs) (sym hs_up) (subst (λ n. up_at es j < n) (sym hs_length) u_inside);

@@ -11,12 +11,12 @@ use Rattle.cover_problem.specs.Table.{IsCoveredList}
 use Rattle.cover_problem.proofs.MemberLemmas.{filter_agree_on}
 use Rattle.cover_problem.proofs.NumberLemmas.{has_numbers_in}
 use Rattle.cover_problem.proofs.CoveredLemmas.{covered_middle}
-use Rattle.cover_links.specs.declared.entry.Entry.{Entry}
+use Rattle.cover_links.specs.declared.entry.TableEntry.{TableEntry}
 use Rattle.cover_links.specs.Hiding.{item_covered, item_uncovered, all_covered}
 use Rattle.cover_links.specs.Fresh.{fresh}
 use Rattle.cover_links.specs.Layout.{node_index}
 use Rattle.cover_links.specs.Ring.{IsRing}
-use Rattle.cover_links.specs.StandsFor.{IsWalk, block_of, BlockStands, UncoverRestores}
+use Rattle.cover_links.specs.StandsFor.{IsListWalk, block_of, BlockStands, UncoverRestores}
 use Rattle.cover_links.proofs.HidingLemmas.{Stands, down_at, up_at, left_at, right_at}
 use Rattle.cover_links.proofs.ListWalk.{IsChain, chain_from}
 use Rattle.cover_links.proofs.Covered.{shown_of, active_of, active_is}
@@ -25,7 +25,7 @@ use Rattle.cover_links.proofs.BuiltLemmas.{fresh_stands}
 
 -- ---- the block of the covered items
 
-covered_stands : (p : ProblemValue) → IsProblem p → (c more : List ℕ) (es : List Entry) → IsCoveredList p (c ++ more) → Stands p (shown_of p c) (active_of p c) es
+covered_stands : (p : ProblemValue) → IsProblem p → (c more : List ℕ) (es : List TableEntry) → IsCoveredList p (c ++ more) → Stands p (shown_of p c) (active_of p c) es
     → Stands p (shown_of p (c ++ more)) (active_of p (c ++ more)) (all_covered es more)
 covered_stands p problem c [] es a s = subst (λ d. Stands p (shown_of p d) (active_of p d) es) (sym (append-nil c)) s
 covered_stands p problem c (i ∷ more) es a s =
@@ -37,7 +37,7 @@ pub links_stand : (p : ProblemValue) (c : List ℕ) → IsProblem p → IsCovere
 unfolding block_of
 links_stand p c problem a = covered_stands p problem [] c (fresh p) a (fresh_stands p problem)
 
-covered_push : (es : List Entry) (c : List ℕ) (i : ℕ) → all_covered es (c ++ i ∷ []) ≡ item_covered (all_covered es c) i
+covered_push : (es : List TableEntry) (c : List ℕ) (i : ℕ) → all_covered es (c ++ i ∷ []) ≡ item_covered (all_covered es c) i
 covered_push es [] i = refl
 covered_push es (j ∷ c) i = covered_push (item_covered es j) c i
 
@@ -75,21 +75,21 @@ active_list p c =
 
 -- ---- walks
 
-walk_forth : (t : ℕ → Bool) (at next prev : ℕ → ℕ) → IsRing t at next prev → (rs : List ℕ) (x : ℕ) → IsChain t x rs → IsWalk next (at x) (map at rs) (at 0)
+walk_forth : (t : ℕ → Bool) (at next prev : ℕ → ℕ) → IsRing t at next prev → (rs : List ℕ) (x : ℕ) → IsChain t x rs → IsListWalk next (at x) (map at rs) (at 0)
 walk_forth t at next prev r [] x c = (r x 0 c).0
 walk_forth t at next prev r (k ∷ rs) x c = ((r x k c.0).0, walk_forth t at next prev r rs k c.1)
 
-walk_more : (link : ℕ → ℕ) (xs : List ℕ) (a y b : ℕ) → IsWalk link a xs y → link y ≡ b → IsWalk link a (xs ++ y ∷ []) b
+walk_more : (link : ℕ → ℕ) (xs : List ℕ) (a y b : ℕ) → IsListWalk link a xs y → link y ≡ b → IsListWalk link a (xs ++ y ∷ []) b
 walk_more link [] a y b w e = (w, e)
 walk_more link (x ∷ xs) a y b w e = (w.0, walk_more link xs x y b w.1 e)
 
 reverse_first : (x : ℕ) (xs : List ℕ) → reverse (x ∷ xs) ≡ reverse xs ++ x ∷ []
 reverse_first x xs = reverse-cons x xs
 
-walk_back : (t : ℕ → Bool) (at next prev : ℕ → ℕ) → IsRing t at next prev → (rs : List ℕ) (x : ℕ) → IsChain t x rs → IsWalk prev (at 0) (reverse (map at rs)) (at x)
+walk_back : (t : ℕ → Bool) (at next prev : ℕ → ℕ) → IsRing t at next prev → (rs : List ℕ) (x : ℕ) → IsChain t x rs → IsListWalk prev (at 0) (reverse (map at rs)) (at x)
 walk_back t at next prev r [] x c = (r x 0 c).1
 walk_back t at next prev r (k ∷ rs) x c =
-    subst (λ l. IsWalk prev (at 0) l (at x)) (sym (reverse_first (at k) (map at rs))) (walk_more prev (reverse (map at rs)) (at 0) (at k) (at x) (walk_back t at next prev r rs k c.1) (r x k c.0).1)
+    subst (λ l. IsListWalk prev (at 0) l (at x)) (sym (reverse_first (at k) (map at rs))) (walk_more prev (reverse (map at rs)) (at 0) (at k) (at x) (walk_back t at next prev r rs k c.1) (r x k c.0).1)
 
 same_map : (xs : List ℕ) → map (λ x. x) xs ≡ xs
 same_map [] = refl
@@ -103,8 +103,8 @@ block_stands p c problem a =
     let column : (j : ℕ) → IsChain (shown_of p c j) 0 (list_of p c j) = λ j. subst (λ l. IsChain (shown_of p c j) 0 l) (shown_list p c j)
     (chain_from (shown_of p c j) (length p.options) (λ z h. let q = s.shown_are j z h in (q.some, q.within)) (length p.options) 1 0 (omega arith) (inl refl) (omega arith) (λ z h l. l)) in
     record {
-      items = subst (λ l. IsWalk (right_at (block_of p c)) 0 l 0) (same_map (active p c)) (walk_forth (active_of p c) (λ i. i) (right_at (block_of p c)) (left_at (block_of p c)) s.row (active p c) 0 row);
-      items_back = subst (λ l. IsWalk (left_at (block_of p c)) 0 (reverse l) 0) (same_map (active p c)) (walk_back (active_of p c) (λ i. i) (right_at (block_of p c)) (left_at (block_of p c)) s.row (active p c) 0 row);
+      items = subst (λ l. IsListWalk (right_at (block_of p c)) 0 l 0) (same_map (active p c)) (walk_forth (active_of p c) (λ i. i) (right_at (block_of p c)) (left_at (block_of p c)) s.row (active p c) 0 row);
+      items_back = subst (λ l. IsListWalk (left_at (block_of p c)) 0 (reverse l) 0) (same_map (active p c)) (walk_back (active_of p c) (λ i. i) (right_at (block_of p c)) (left_at (block_of p c)) s.row (active p c) 0 row);
       nodes = λ j pos le. walk_forth (shown_of p c j) (node_index p j) (down_at (block_of p c)) (up_at (block_of p c)) (s.rings j pos le) (list_of p c j) 0 (column j);
       nodes_back = λ j pos le. walk_back (shown_of p c j) (node_index p j) (down_at (block_of p c)) (up_at (block_of p c)) (s.rings j pos le) (list_of p c j) 0 (column j);
       lengths = λ j pos le. s.counts j pos le ∙ ap length (shown_list p c j);

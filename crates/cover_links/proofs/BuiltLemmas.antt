@@ -4,7 +4,7 @@ use Rattle.std.specs.Cmp.{both_ways as same_test}
 use Rattle.std.proofs.lemmas.Bool.{cases_eq, false≢true, eq-eqb, lt-ltb, le-ltb, ne_eqb}
 use Rattle.cover_problem.specs.Lists.{has, numbers}
 use Rattle.cover_problem.specs.Problem.{ProblemValue, IsProblem, option_at, size_of}
-use Rattle.cover_links.specs.declared.entry.Entry.{Entry}
+use Rattle.cover_links.specs.declared.entry.TableEntry.{TableEntry}
 use Rattle.cover_links.specs.Entries.{blank, entry_at}
 use Rattle.cover_links.specs.Fresh.{empty_head, heads_written, built, fresh}
 use Rattle.cover_links.specs.Safety.{CanAppendOption}
@@ -19,15 +19,15 @@ use Rattle.cover_links.proofs.OptionLemmas.{upto, upto_is, upto_old, BuiltDone, 
 
 -- ---- the heads
 
-heads_length : (es : List Entry) (primary n : ℕ) → length (heads_written es primary n) ≡ length es
+heads_length : (es : List TableEntry) (primary n : ℕ) → length (heads_written es primary n) ≡ length es
 heads_length es primary zero = length-set es 0 (record { top = 0; up = 0; down = 0; left = primary; right = 1 })
 heads_length es primary (suc n) = length-set (heads_written es primary n) (suc n) (empty_head primary (suc n)) ∙ heads_length es primary n
 
-header_is : (es : List Entry) (primary n : ℕ) → 0 < length es → entry_at (heads_written es primary n) 0 ≡ record { top = 0; up = 0; down = 0; left = primary; right = 1 }
+header_is : (es : List TableEntry) (primary n : ℕ) → 0 < length es → entry_at (heads_written es primary n) 0 ≡ record { top = 0; up = 0; down = 0; left = primary; right = 1 }
 header_is es primary zero lt = at_set es 0 (record { top = 0; up = 0; down = 0; left = primary; right = 1 }) lt
 header_is es primary (suc n) lt = set_other (heads_written es primary n) (suc n) 0 (empty_head primary (suc n)) (λ e. absurd (omega arith)) ∙ header_is es primary n lt
 
-head_is : (es : List Entry) (primary n i : ℕ) → 0 < i → i ≤ n → n < length es → entry_at (heads_written es primary n) i ≡ empty_head primary i
+head_is : (es : List TableEntry) (primary n i : ℕ) → 0 < i → i ≤ n → n < length es → entry_at (heads_written es primary n) i ≡ empty_head primary i
 head_is es primary zero i a b lt = absurd (omega arith)
 head_is es primary (suc n) i a b lt = step (head_is es primary n i a) (cases_eq i (suc n))
   where
@@ -36,7 +36,7 @@ head_is es primary (suc n) i a b lt = step (head_is es primary n i a) (cases_eq 
     step ih (inr ne) = set_other (heads_written es primary n) (suc n) i (empty_head primary (suc n)) ne ∙ ih (omega (arith, ne)) (omega arith)
 
 module _ (p : ProblemValue) (problem : IsProblem p) where
-  abbrev heads : List Entry
+  abbrev heads : List TableEntry
   heads = heads_written (replicate (size_of p) blank) p.primary (length p.names)
 
   room : length (replicate (size_of p) blank) ≡ size_of p
@@ -66,24 +66,24 @@ module _ (p : ProblemValue) (problem : IsProblem p) where
       step (inr h) n = absurd (none j x h)
       step (inl e) (inl n) = absurd (none j y n.0)
       step (inl e) (inr n) = (
-        (λ v. down_at heads (node_index p j (e v))) ∙ ap (λ (w : Entry). w.down) (head j a b) ∙ (λ v. node_index p j (sym n.0 v)),
-        (λ v. up_at heads (node_index p j (n.0 v))) ∙ ap (λ (w : Entry). w.up) (head j a b) ∙ (λ v. node_index p j (sym e v)),
+        (λ v. down_at heads (node_index p j (e v))) ∙ ap (λ (w : TableEntry). w.down) (head j a b) ∙ (λ v. node_index p j (sym n.0 v)),
+        (λ v. up_at heads (node_index p j (n.0 v))) ∙ ap (λ (w : TableEntry). w.up) (head j a b) ∙ (λ v. node_index p j (sym e v)),
       )
 
   primary_right : (i : ℕ) → 0 < i → i < p.primary → right_at heads i ≡ i + 1
   primary_right i a b =
       let w = problem.within in let f : nat_lt p.primary i ≡ false = le-ltb p.primary i (omega arith) in let g : i == p.primary ≡ false = ne_eqb i p.primary (λ e. absurd (omega arith)) in
-      ap (λ (e : Entry). e.right) (head i a (omega arith)) ∙ rw (f, g) refl
+      ap (λ (e : TableEntry). e.right) (head i a (omega arith)) ∙ rw (f, g) refl
 
   last_right : right_at heads p.primary ≡ 0
   last_right =
       let w = problem.within in let f : nat_lt p.primary p.primary ≡ false = le-ltb p.primary p.primary (omega arith) in let g : p.primary == p.primary ≡ true = eq-eqb p.primary p.primary refl in
-      ap (λ (e : Entry). e.right) (head p.primary problem.some w) ∙ rw (f, g) refl
+      ap (λ (e : TableEntry). e.right) (head p.primary problem.some w) ∙ rw (f, g) refl
 
   primary_left : (i : ℕ) → 0 < i → i ≤ p.primary → left_at heads i ≡ i - 1
   primary_left i a b =
       let w = problem.within in let f : nat_lt p.primary i ≡ false = le-ltb p.primary i b in
-      ap (λ (e : Entry). e.left) (head i a (omega arith)) ∙ rw f refl
+      ap (λ (e : TableEntry). e.left) (head i a (omega arith)) ∙ rw f refl
 
   full_row : IsRing (active_of p []) (λ i. i) (right_at heads) (left_at heads)
   full_row x y f = step f.to
@@ -93,7 +93,7 @@ module _ (p : ProblemValue) (problem : IsProblem p) where
       at_most (inr h) = (active_is p [] x h).1
 
       go_right : (x ≡ 0) ⊎ (active_of p [] x ≡ true) → x < p.primary → right_at heads x ≡ x + 1
-      go_right (inl e) lt = (λ v. right_at heads (e v)) ∙ ap (λ (w : Entry). w.right) header ∙ (let z : 1 ≡ x + 1 = omega arith in z)
+      go_right (inl e) lt = (λ v. right_at heads (e v)) ∙ ap (λ (w : TableEntry). w.right) header ∙ (let z : 1 ≡ x + 1 = omega arith in z)
       go_right (inr h) lt = let q = active_is p [] x h in primary_right x q.0 lt
 
       close_right : x ≡ p.primary → right_at heads x ≡ 0
@@ -109,22 +109,22 @@ module _ (p : ProblemValue) (problem : IsProblem p) where
           let most = n.1 p.primary (active_when p [] p.primary problem.some (omega arith) refl) in
           let a = at_most f.from in
           let e : x ≡ p.primary = omega arith in
-          (close_right e ∙ sym n.0, (λ v. left_at heads (n.0 v)) ∙ ap (λ (w : Entry). w.left) header ∙ sym e)
+          (close_right e ∙ sym n.0, (λ v. left_at heads (n.0 v)) ∙ ap (λ (w : TableEntry). w.left) header ∙ sym e)
 
   heads_done : BuiltDone p (active_of p []) 0 heads
   heads_done = record {
     grows = record {
       size = heads_length (replicate (size_of p) blank) p.primary (length p.names) ∙ room;
-      header = ap (λ (w : Entry). w.top) header;
+      header = ap (λ (w : TableEntry). w.top) header;
       shown_are = λ j k h. absurd (none j k h);
       rings = empty_ring;
-      counts = λ j a b. ap (λ (w : Entry). w.top) (head j a b) ∙ sym (ap length (no_members j (length p.options) 1));
+      counts = λ j a b. ap (λ (w : TableEntry). w.top) (head j a b) ∙ sym (ap length (no_members j (length p.options) 1));
       tops = λ j k h. absurd (none j k h);
       nexts = λ j k h. absurd (none j k h);
       row = full_row;
       aside = λ i a b.
           let f : nat_lt p.primary i ≡ true = lt-ltb p.primary i a in
-          (ap (λ (w : Entry). w.right) (head i (omega arith) b) ∙ rw f refl, ap (λ (w : Entry). w.left) (head i (omega arith) b) ∙ rw f refl);
+          (ap (λ (w : TableEntry). w.right) (head i (omega arith) b) ∙ rw f refl, ap (λ (w : TableEntry). w.left) (head i (omega arith) b) ∙ rw f refl);
       actives = λ i h. let q = active_is p [] i h in (q.0, q.1);
     };
     spacers = λ k a b. absurd (omega arith);

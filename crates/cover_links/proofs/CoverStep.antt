@@ -7,7 +7,7 @@ use Rattle.cover_problem.specs.Problem.{ProblemValue, IsProblem}
 use Rattle.cover_problem.specs.Coverable.{IsUncovered}
 use Rattle.cover_problem.proofs.MemberLemmas.{has_filter, has_filter_in}
 use Rattle.cover_problem.proofs.NumberLemmas.{has_numbers, rises_filter}
-use Rattle.cover_links.specs.declared.entry.Entry.{Entry}
+use Rattle.cover_links.specs.declared.entry.TableEntry.{TableEntry}
 use Rattle.cover_links.specs.Entries.{item_unlinked, item_relinked, IsItemLinked}
 use Rattle.cover_links.specs.Hiding.{list_hidden, list_unhidden, options_hidden, item_covered, item_uncovered}
 use Rattle.cover_links.specs.Safety.{CanHideList, CanUnhideList, IsItemInside, CanCoverItem, CanUncoverItem}
@@ -25,12 +25,12 @@ use Rattle.cover_links.proofs.Covered.{shown_of, active_of, active_is, active_wh
 -- ---- an item leaves the row
 
 -- the row without the item, and the links of all that is no primary item as they were
-pub record RowDone (p : ProblemValue) (active : ℕ → Bool) (fs : List Entry) (i : ℕ) : Type 0 where
+pub record RowDone (p : ProblemValue) (active : ℕ → Bool) (fs : List TableEntry) (i : ℕ) : Type 0 where
   pub linked : IsItemLinked fs i
   pub ring : IsRing active (λ x. x) (right_at (item_unlinked fs i)) (left_at (item_unlinked fs i))
   pub far : (y : ℕ) → p.primary < y → (right_at (item_unlinked fs i) y ≡ right_at fs y) × (left_at (item_unlinked fs i) y ≡ left_at fs y)
 
-module _ (p : ProblemValue) (c : List ℕ) (i : ℕ) (shown : ℕ → ℕ → Bool) (fs : List Entry) (problem : IsProblem p) (u : IsUncovered p c i) (s : Stands p shown (active_of p c) fs) where
+module _ (p : ProblemValue) (c : List ℕ) (i : ℕ) (shown : ℕ → ℕ → Bool) (fs : List TableEntry) (problem : IsProblem p) (u : IsUncovered p c i) (s : Stands p shown (active_of p c) fs) where
   small : (y : ℕ) → (y ≡ 0) ⊎ (active_of p c y ≡ true) → (y ≤ p.primary) × (y < length fs)
   small y (inl e) = let z = s.size in let w = problem.within in (omega arith, omega (arith, u.some, u.within))
   small y (inr h) = let a = active_is p c y h in let z = s.size in let w = problem.within in (a.1, omega arith)
@@ -93,7 +93,7 @@ module _ (p : ProblemValue) (c : List ℕ) (i : ℕ) (shown : ℕ → ℕ → Bo
       pick (inl l) = aside l
       pick (inr l) = near l
 
-  gs : List Entry
+  gs : List TableEntry
   gs = item_unlinked fs i
 
   pub row_stands : Stands p shown (active_of p (c ++ i ∷ [])) (item_unlinked fs i)
@@ -120,13 +120,13 @@ module _ (p : ProblemValue) (c : List ℕ) (i : ℕ) (shown : ℕ → ℕ → Bo
 
 -- ---- the whole step
 
-pub record CoverDone (p : ProblemValue) (c : List ℕ) (i : ℕ) (es : List Entry) : Type 0 where
+pub record CoverDone (p : ProblemValue) (c : List ℕ) (i : ℕ) (es : List TableEntry) : Type 0 where
   pub stands : Stands p (shown_of p (c ++ i ∷ [])) (active_of p (c ++ i ∷ [])) (item_covered es i)
   pub can : CanCoverItem es i
   pub back : item_uncovered (item_covered es i) i ≡ es
   pub back_can : CanUncoverItem (item_covered es i) i
 
-module _ (p : ProblemValue) (c : List ℕ) (i : ℕ) (es : List Entry) (problem : IsProblem p) (u : IsUncovered p c i) (s : Stands p (shown_of p c) (active_of p c) es) where
+module _ (p : ProblemValue) (c : List ℕ) (i : ℕ) (es : List TableEntry) (problem : IsProblem p) (u : IsUncovered p c i) (s : Stands p (shown_of p c) (active_of p c) es) where
   abbrev column : ℕ → Bool
   column = shown_of p c i
 
@@ -180,7 +180,7 @@ module _ (p : ProblemValue) (c : List ℕ) (i : ℕ) (es : List Entry) (problem 
               pick true e out = absurd (out (listed k e))
               pick false e out = e
 
-  abbrev fs : List Entry
+  abbrev fs : List TableEntry
   fs = list_hidden es (node_index p i (first_of rs)) (length rs)
 
   fs_stands : Stands p (shown_of p (c ++ i ∷ [])) (active_of p c) fs
@@ -203,7 +203,7 @@ module _ (p : ProblemValue) (c : List ℕ) (i : ℕ) (es : List Entry) (problem 
   unfolding item_covered
   covered_is = ap (λ gs. item_unlinked gs i) options_is
 
-  here : (f : ℕ → ℕ → Bool) (t : ℕ → Bool) (gs : List Entry) → Stands p f t gs → i < length gs
+  here : (f : ℕ → ℕ → Bool) (t : ℕ → Bool) (gs : List TableEntry) → Stands p f t gs → i < length gs
   here f t gs w = let z = w.size in let l = u.within in omega arith
 
   can : CanCoverItem es i
@@ -240,7 +240,7 @@ module _ (p : ProblemValue) (c : List ℕ) (i : ℕ) (es : List Entry) (problem 
       before = subst (λ n. n < length (item_unlinked fs i)) (sym (leaves_prev (item_unlinked_leaves fs i row.linked))) (subst (λ n. left_at fs i < n) (sym (length-item_unlinked fs i)) (row.linked).before);
       after = subst (λ n. n < length (item_unlinked fs i)) (sym (leaves_next (item_unlinked_leaves fs i row.linked))) (subst (λ n. right_at fs i < n) (sym (length-item_unlinked fs i)) (row.linked).after);
     };
-    options = subst (λ (w : List Entry × ℕ × ℕ). CanUnhideList w.0 w.1 w.2) (λ z. (sym again z, (sym up_is ∙ (λ l. up_at (sym again l) i)) z, (sym top_again ∙ (λ l. top_at (sym again l) i)) z)) (walk.back_can 0 tt);
+    options = subst (λ (w : List TableEntry × ℕ × ℕ). CanUnhideList w.0 w.1 w.2) (λ z. (sym again z, (sym up_is ∙ (λ l. up_at (sym again l) i)) z, (sym top_again ∙ (λ l. top_at (sym again l) i)) z)) (walk.back_can 0 tt);
   }
 
   pub cover_done : CoverDone p c i es

@@ -3,7 +3,7 @@ use denote.Param.Send.{IsSend, IsSync, sendable}
 use Rattle.std.proofs.Crossing.{crosses, frees}
 use Rattle.std_heap.specs.contracts.Global as Heap
 use Rattle.std_heap.specs.contracts.GlobalAllocator.TheImpl.{ghosts}
-use Rattle.cover_links.specs.contracts.block.Row as row
+use Rattle.cover_links.specs.contracts.block.BlockRow as row
 use Rattle.cover_links.specs.contracts.block.Block as block
 use Rattle.cover_links.specs.contracts.table.LinkTable as table
 use Rattle.cover_links.proofs.SendParts.{slots_send, slots_sync, allocation_send, allocation_sync}

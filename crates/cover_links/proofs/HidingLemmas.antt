@@ -7,7 +7,7 @@ use Rattle.cover_problem.specs.Lists.{numbers, above, below}
 use Rattle.cover_problem.specs.Problem.{ProblemValue, IsProblem, size_of}
 use Rattle.cover_problem.proofs.HolderLemmas.{few_options}
 use Rattle.cover_problem.proofs.NumberLemmas.{length-numbers}
-use Rattle.cover_links.specs.declared.entry.Entry.{Entry}
+use Rattle.cover_links.specs.declared.entry.TableEntry.{TableEntry}
 use Rattle.cover_links.specs.Entries.{entry_at, next_bytes, changed, one_less, one_more, unlinked, relinked, IsLinked}
 use Rattle.cover_links.specs.Hiding.{node_hidden, node_unhidden}
 use Rattle.cover_links.specs.Safety.{IsInside, CanHideNode, CanUnhideNode}
@@ -20,23 +20,23 @@ use Rattle.cover_links.proofs.RingLemmas.{Leaves, leaves_next, leaves_prev, ring
 use Rattle.cover_links.proofs.LayoutLemmas.{IsNode, next_place, place_high, place_low, place_apart, spacer_low}
 
 -- the four links and the first field, by index
-abbrev pub down_at : List Entry → ℕ → ℕ
+abbrev pub down_at : List TableEntry → ℕ → ℕ
 down_at es x = (entry_at es x).down
 
-abbrev pub up_at : List Entry → ℕ → ℕ
+abbrev pub up_at : List TableEntry → ℕ → ℕ
 up_at es x = (entry_at es x).up
 
-abbrev pub left_at : List Entry → ℕ → ℕ
+abbrev pub left_at : List TableEntry → ℕ → ℕ
 left_at es x = (entry_at es x).left
 
-abbrev pub right_at : List Entry → ℕ → ℕ
+abbrev pub right_at : List TableEntry → ℕ → ℕ
 right_at es x = (entry_at es x).right
 
-abbrev pub top_at : List Entry → ℕ → ℕ
+abbrev pub top_at : List TableEntry → ℕ → ℕ
 top_at es x = (entry_at es x).top
 
 -- the bytes before the next node of an option
-abbrev pub bytes_at : List Entry → ℕ → ℕ
+abbrev pub bytes_at : List TableEntry → ℕ → ℕ
 bytes_at es x = next_bytes (entry_at es x)
 
 -- a list has fewer nodes than a word counts
@@ -47,7 +47,7 @@ few p t problem =
 
 -- the entries of a problem: `shown j k` says that the node of the item j in the option k is in its list, and `active` which
 -- items are in the row
-pub record Stands (p : ProblemValue) (shown : ℕ → ℕ → Bool) (active : ℕ → Bool) (es : List Entry) : Type 0 where
+pub record Stands (p : ProblemValue) (shown : ℕ → ℕ → Bool) (active : ℕ → Bool) (es : List TableEntry) : Type 0 where
   pub size : length es ≡ size_of p
   pub header : top_at es 0 ≡ 0
   pub shown_are : (j k : ℕ) → shown j k ≡ true → IsNode p j k
@@ -81,7 +81,7 @@ minus_was shown j k i m h = step (cases_eq i j)
     step (inl e) = let w = without_ne (shown i) k m (subst (λ (f : ℕ → Bool). f m ≡ true) (minus_here shown j k i e) h) in (w.0, λ d. w.1)
     step (inr ne) = (subst (λ (f : ℕ → Bool). f m ≡ true) (minus_other shown j k i ne) h, λ d. absurd (ne d))
 
-module _ (p : ProblemValue) (shown : ℕ → ℕ → Bool) (active : ℕ → Bool) (es : List Entry) (problem : IsProblem p) (s : Stands p shown active es) where
+module _ (p : ProblemValue) (shown : ℕ → ℕ → Bool) (active : ℕ → Bool) (es : List TableEntry) (problem : IsProblem p) (s : Stands p shown active es) where
   -- the numbers that a column may have
   pub column_within : (j k : ℕ) → shown j k ≡ true → (0 < k) × (k ≤ length p.options)
   column_within j k h = let n = s.shown_are j k h in (n.some, n.within)
@@ -165,7 +165,7 @@ module _ (p : ProblemValue) (shown : ℕ → ℕ → Bool) (active : ℕ → Boo
     touched_in x (inr (inr (inr e))) = (0, inl refl, e ∙ top_is)
 
     -- the block without the node
-    abbrev gone : List Entry
+    abbrev gone : List TableEntry
     gone = changed one_less (unlinked es q) j
 
     gone_is : node_hidden es q ≡ gone
@@ -191,10 +191,10 @@ module _ (p : ProblemValue) (shown : ℕ → ℕ → Bool) (active : ℕ → Boo
     unlinked_top y = unlinked_kept es q (λ e. e.top) (λ n e. refl) (λ n e. refl) y
 
     gone_top : (y : ℕ) → (y ≡ j → ⊥) → top_at gone y ≡ top_at es y
-    gone_top y ne = ap (λ (e : Entry). e.top) (at_other one_less (unlinked es q) j y ne) ∙ unlinked_top y
+    gone_top y ne = ap (λ (e : TableEntry). e.top) (at_other one_less (unlinked es q) j y ne) ∙ unlinked_top y
 
     gone_head : top_at gone j ≡ top_at es j - 1
-    gone_head = ap (λ (e : Entry). e.top) (at_changed one_less (unlinked es q) j (subst (λ n. j < n) (sym (length-unlinked es q)) head_low)) ∙ ap (λ n. n - 1) (unlinked_top j)
+    gone_head = ap (λ (e : TableEntry). e.top) (at_changed one_less (unlinked es q) j (subst (λ n. j < n) (sym (length-unlinked es q)) head_low)) ∙ ap (λ n. n - 1) (unlinked_top j)
 
     gone_length : length gone ≡ length es
     gone_length = length-changed one_less (unlinked es q) j ∙ length-unlinked es q
@@ -290,7 +290,7 @@ module _ (p : ProblemValue) (shown : ℕ → ℕ → Bool) (active : ℕ → Boo
 -- ---- two nodes
 
 -- hiding touches nothing of another item's list
-pub nodes_apart : (p : ProblemValue) (shown : ℕ → ℕ → Bool) (active : ℕ → Bool) (es : List Entry) → IsProblem p → Stands p shown active es → (i j k : ℕ) → (i ≡ j → ⊥)
+pub nodes_apart : (p : ProblemValue) (shown : ℕ → ℕ → Bool) (active : ℕ → Bool) (es : List TableEntry) → IsProblem p → Stands p shown active es → (i j k : ℕ) → (i ≡ j → ⊥)
     → (shown i k ≡ true) × (0 < i) × (i ≤ length p.names) → (shown j k ≡ true) × (0 < j) × (j ≤ length p.names) → AreApart es (node_index p i k) (node_index p j k)
 nodes_apart p shown active es problem s i j k ne a b x y m n e =
     lists_apart p shown active es problem s i j ne a.2 b.2 y

@@ -4,7 +4,7 @@ use Rattle.std.proofs.lemmas.Bool.{cases_eq, cases_Bool, cases_lt, both_ways, fa
 use Rattle.cover_problem.specs.Lists.{has, are_distinct, numbers}
 use Rattle.cover_problem.specs.Problem.{ProblemValue, IsProblem, option_at}
 use Rattle.cover_problem.proofs.MemberLemmas.{has_cases, has_here, has_later}
-use Rattle.cover_links.specs.declared.entry.Entry.{Entry}
+use Rattle.cover_links.specs.declared.entry.TableEntry.{TableEntry}
 use Rattle.cover_links.specs.Hiding.{hidden, list_hidden, list_unhidden}
 use Rattle.cover_links.specs.Safety.{CanHideList, CanUnhideList}
 use Rattle.cover_links.specs.Ring.{Follows}
@@ -64,19 +64,19 @@ list_gone p i shown [] = shown
 list_gone p i shown (k ∷ rs) = list_gone p i (option_gone p i shown k) rs
 
 -- from the block es, where the walk stands at the place x of the item i's list and the options of rs come next
-pub record ListDone (p : ProblemValue) (i : ℕ) (shown : ℕ → ℕ → Bool) (active : ℕ → Bool) (es : List Entry) (x : ℕ) (rs : List ℕ) : Type 0 where
+pub record ListDone (p : ProblemValue) (i : ℕ) (shown : ℕ → ℕ → Bool) (active : ℕ → Bool) (es : List TableEntry) (x : ℕ) (rs : List ℕ) : Type 0 where
   pub stands : Stands p shown active (list_hidden es (node_index p i (first_of rs)) (length rs))
   pub can : CanHideList es (node_index p i (first_of rs)) (length rs)
   pub back : (m : ℕ) → list_unhidden (list_hidden es (node_index p i (first_of rs)) (length rs)) (node_index p i (last_from x rs)) (length rs + m) ≡ list_unhidden es (node_index p i x) m
   pub back_can : (m : ℕ) → CanUnhideList es (node_index p i x) m → CanUnhideList (list_hidden es (node_index p i (first_of rs)) (length rs)) (node_index p i (last_from x rs)) (length rs + m)
 
 -- one option, and the rest
-module _ (p : ProblemValue) (active : ℕ → Bool) (problem : IsProblem p) (i : ℕ) (pos : 0 < i) (le : i ≤ length p.names) (shown : ℕ → ℕ → Bool) (es : List Entry) (s : Stands p shown active es)
+module _ (p : ProblemValue) (active : ℕ → Bool) (problem : IsProblem p) (i : ℕ) (pos : 0 < i) (le : i ≤ length p.names) (shown : ℕ → ℕ → Bool) (es : List TableEntry) (s : Stands p shown active es)
     (k : ℕ) (rs : List ℕ) (x : ℕ) (chain : IsChain (shown i) x (k ∷ rs)) (shown' : ℕ → ℕ → Bool) (mine : shown' i ≡ shown i) (d : HideDone p shown' active es (node_index p i k)) (final : ℕ → ℕ → Bool) (rest : ListDone p i final active (hidden es (node_index p i k)) k rs) where
   abbrev q : ℕ
   q = node_index p i k
 
-  abbrev mid : List Entry
+  abbrev mid : List TableEntry
   mid = hidden es q
 
   next_chain : IsChain (shown' i) k rs
@@ -100,11 +100,11 @@ module _ (p : ProblemValue) (active : ℕ → Bool) (problem : IsProblem p) (i :
         (λ j. list_unhidden (end_is j) (node_index p i (last_from k rs)) (e j)) ∙ rest.back (suc m) ∙ (λ j. list_unhidden (d.back j) (up_at (d.back j) q) m) ∙ ap (λ n. list_unhidden es n m) up_is;
     back_can = λ m c.
         let e : length rs + suc m ≡ suc (length rs) + m = omega arith in
-        let here : CanUnhideList mid q (suc m) = (d.back_can, subst (λ (w : List Entry × ℕ). CanUnhideList w.0 w.1 m) (λ j. (sym d.back j, (sym up_is ∙ sym (λ l. up_at (d.back l) q)) j)) c) in
-        subst (λ (w : List Entry × ℕ). CanUnhideList w.0 (node_index p i (last_from k rs)) w.1) (λ j. (sym end_is j, e j)) (rest.back_can (suc m) here);
+        let here : CanUnhideList mid q (suc m) = (d.back_can, subst (λ (w : List TableEntry × ℕ). CanUnhideList w.0 w.1 m) (λ j. (sym d.back j, (sym up_is ∙ sym (λ l. up_at (d.back l) q)) j)) c) in
+        subst (λ (w : List TableEntry × ℕ). CanUnhideList w.0 (node_index p i (last_from k rs)) w.1) (λ j. (sym end_is j, e j)) (rest.back_can (suc m) here);
   }
 
-pub list_done : (p : ProblemValue) (active : ℕ → Bool) → IsProblem p → (i : ℕ) → 0 < i → i ≤ length p.names → (rs : List ℕ) (shown : ℕ → ℕ → Bool) (es : List Entry) (x : ℕ) → Stands p shown active es → IsChain (shown i) x rs → are_distinct rs ≡ true
+pub list_done : (p : ProblemValue) (active : ℕ → Bool) → IsProblem p → (i : ℕ) → 0 < i → i ≤ length p.names → (rs : List ℕ) (shown : ℕ → ℕ → Bool) (es : List TableEntry) (x : ℕ) → Stands p shown active es → IsChain (shown i) x rs → are_distinct rs ≡ true
     → ((k : ℕ) → has rs k ≡ true → IsNode p i k) → ((k : ℕ) → has rs k ≡ true → (j : ℕ) → has (option_at p k) j ≡ true → shown j k ≡ true)
     → ListDone p i (list_gone p i shown rs) active es x rs
 list_done p active problem i pos le [] shown es x s chain d nodes all = record { stands = s; can = tt; back = λ m. (λ j. list_unhidden es (node_index p i x) ((let e : 0 + m ≡ m = omega arith in e) j)); back_can = λ m c. subst (λ n. CanUnhideList es (node_index p i x) n) (let e : m ≡ 0 + m = omega arith in e) c }

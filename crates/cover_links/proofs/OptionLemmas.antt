@@ -6,7 +6,7 @@ use Rattle.cover_problem.specs.Problem.{ProblemValue, IsProblem, option_at, size
 use Rattle.cover_problem.proofs.MemberLemmas.{has_here, has_append_cases, has_append_left, has_append_right, has_cases}
 use Rattle.cover_problem.proofs.PartLemmas.{distinct_parts}
 use Rattle.cover_problem.proofs.ActiveLemmas.{option_is, IsOptionOf}
-use Rattle.cover_links.specs.declared.entry.Entry.{Entry}
+use Rattle.cover_links.specs.declared.entry.TableEntry.{TableEntry}
 use Rattle.cover_links.specs.Entries.{entry_at, next_bytes, changed, to_down}
 use Rattle.cover_links.specs.Fresh.{node_appended, nodes_appended, option_appended, fresh}
 use Rattle.cover_links.specs.Safety.{CanAppendNode, CanAppendNodes, CanAppendOption}
@@ -77,15 +77,15 @@ adds p n xs j fresh = record {
 -- ---- the nodes of an option
 
 -- neither what the entry at y is nor where it leads to is changed
-abbrev IsSame : List Entry → List Entry → ℕ → Type 0
+abbrev IsSame : List TableEntry → List TableEntry → ℕ → Type 0
 IsSame es fs y = (top_at fs y ≡ top_at es y) × (bytes_at fs y ≡ bytes_at es y)
 
-pub record NodesDone (p : ProblemValue) (shown : ℕ → ℕ → Bool) (active : ℕ → Bool) (es fs : List Entry) (x start end : ℕ) (js : List ℕ) : Type 0 where
+pub record NodesDone (p : ProblemValue) (shown : ℕ → ℕ → Bool) (active : ℕ → Bool) (es fs : List TableEntry) (x start end : ℕ) (js : List ℕ) : Type 0 where
   pub grows : Grows p shown active fs
   pub can : CanAppendNodes es x start end js
   pub keeps : (y : ℕ) → length p.names < y → (y < x) ⊎ (x + length js ≤ y) → IsSame es fs y
 
-nodes_done : (p : ProblemValue) (active : ℕ → Bool) (n : ℕ) → IsProblem p → n < length p.options → (js xs : List ℕ) (es : List Entry) (x : ℕ) → option_at p (suc n) ≡ xs ++ js → Grows p (upto p n xs) active es → IsRun p (suc n) x js
+nodes_done : (p : ProblemValue) (active : ℕ → Bool) (n : ℕ) → IsProblem p → n < length p.options → (js xs : List ℕ) (es : List TableEntry) (x : ℕ) → option_at p (suc n) ≡ xs ++ js → Grows p (upto p n xs) active es → IsRun p (suc n) x js
     → NodesDone p (upto p n (xs ++ js)) active es (nodes_appended es x (start_of p n) (spacer_of p (suc n)) js) x (start_of p n) (spacer_of p (suc n)) js
 nodes_done p active n problem lt [] xs es x e g r = record { grows = subst (λ l. Grows p (upto p n l) active es) (sym (append-nil xs)) g; can = tt; keeps = λ y a b. (refl, refl) }
 nodes_done p active n problem lt (j ∷ js) xs es x e g r =
@@ -171,21 +171,21 @@ spacer_rises p zero n le lt = let s = start_low p n in omega arith
 spacer_rises p (suc k) n le lt = let s = start_below p k n (omega arith) (omega arith) in omega arith
 
 -- a change of an entry that is no head and no node
-grows_aside : (p : ProblemValue) (shown : ℕ → ℕ → Bool) (active : ℕ → Bool) (es fs : List Entry) (z : ℕ) → IsProblem p → Grows p shown active es → length fs ≡ length es → length p.names < z → ((j k : ℕ) → shown j k ≡ true → node_index p j k ≡ z → ⊥)
+grows_aside : (p : ProblemValue) (shown : ℕ → ℕ → Bool) (active : ℕ → Bool) (es fs : List TableEntry) (z : ℕ) → IsProblem p → Grows p shown active es → length fs ≡ length es → length p.names < z → ((j k : ℕ) → shown j k ≡ true → node_index p j k ≡ z → ⊥)
     → ((y : ℕ) → (y ≡ z → ⊥) → entry_at fs y ≡ entry_at es y) → Grows p shown active fs
 grows_aside p shown active es fs z problem g long high apart same =
     let head : (j : ℕ) → j ≤ length p.names → entry_at fs j ≡ entry_at es j = λ j le. same j (λ e. absurd (omega arith)) in
     let node : (j k : ℕ) → shown j k ≡ true → entry_at fs (node_index p j k) ≡ entry_at es (node_index p j k) = λ j k h. same (node_index p j k) (apart j k h) in
     record {
       size = long ∙ g.size;
-      header = ap (λ (e : Entry). e.top) (head 0 (omega arith)) ∙ g.header;
+      header = ap (λ (e : TableEntry). e.top) (head 0 (omega arith)) ∙ g.header;
       shown_are = g.shown_are;
-      rings = λ j a b x y f. let q = g.rings j a b x y f in (ap (λ (e : Entry). e.down) (member j b x f.from) ∙ q.0, ap (λ (e : Entry). e.up) (member j b y (next_member (shown j) x y f.to)) ∙ q.1);
-      counts = λ j a b. ap (λ (e : Entry). e.top) (head j b) ∙ g.counts j a b;
-      tops = λ j k h. ap (λ (e : Entry). e.top) (node j k h) ∙ g.tops j k h;
+      rings = λ j a b x y f. let q = g.rings j a b x y f in (ap (λ (e : TableEntry). e.down) (member j b x f.from) ∙ q.0, ap (λ (e : TableEntry). e.up) (member j b y (next_member (shown j) x y f.to)) ∙ q.1);
+      counts = λ j a b. ap (λ (e : TableEntry). e.top) (head j b) ∙ g.counts j a b;
+      tops = λ j k h. ap (λ (e : TableEntry). e.top) (node j k h) ∙ g.tops j k h;
       nexts = λ j k h. ap next_bytes (node j k h) ∙ g.nexts j k h;
-      row = λ x y f. let q = g.row x y f in (ap (λ (e : Entry). e.right) (head x (low x f.from)) ∙ q.0, ap (λ (e : Entry). e.left) (head y (low y (next_member active x y f.to))) ∙ q.1);
-      aside = λ i a b. let q = g.aside i a b in (ap (λ (e : Entry). e.right) (head i b) ∙ q.0, ap (λ (e : Entry). e.left) (head i b) ∙ q.1);
+      row = λ x y f. let q = g.row x y f in (ap (λ (e : TableEntry). e.right) (head x (low x f.from)) ∙ q.0, ap (λ (e : TableEntry). e.left) (head y (low y (next_member active x y f.to))) ∙ q.1);
+      aside = λ i a b. let q = g.aside i a b in (ap (λ (e : TableEntry). e.right) (head i b) ∙ q.0, ap (λ (e : TableEntry). e.left) (head i b) ∙ q.1);
       actives = g.actives;
     }
   where
@@ -200,14 +200,14 @@ grows_aside p shown active es fs z problem g long high apart same =
 -- ---- the options
 
 -- the spacer past the option numbered k: it has that number, and leads to no next node
-abbrev pub IsSpacer : List Entry → ℕ → ℕ → Type 0
+abbrev pub IsSpacer : List TableEntry → ℕ → ℕ → Type 0
 IsSpacer es x k = (top_at es x ≡ k) × (bytes_at es x ≡ 0)
 
-pub record BuiltDone (p : ProblemValue) (active : ℕ → Bool) (n : ℕ) (es : List Entry) : Type 0 where
+pub record BuiltDone (p : ProblemValue) (active : ℕ → Bool) (n : ℕ) (es : List TableEntry) : Type 0 where
   pub grows : Grows p (upto p n []) active es
   pub spacers : (k : ℕ) → 0 < k → k ≤ n → IsSpacer es (spacer_of p k) k
 
-module _ (p : ProblemValue) (active : ℕ → Bool) (n : ℕ) (problem : IsProblem p) (lt : n < length p.options) (es : List Entry) (d : BuiltDone p active n es) where
+module _ (p : ProblemValue) (active : ℕ → Bool) (n : ℕ) (problem : IsProblem p) (lt : n < length p.options) (es : List TableEntry) (d : BuiltDone p active n es) where
   abbrev o : List ℕ
   o = option_at p (suc n)
 
@@ -217,16 +217,16 @@ module _ (p : ProblemValue) (active : ℕ → Bool) (n : ℕ) (problem : IsProbl
   abbrev end : ℕ
   end = start_of p n + length o
 
-  abbrev fs : List Entry
+  abbrev fs : List TableEntry
   fs = nodes_appended es start start end o
 
   nodes : NodesDone p (upto p n o) active es fs start start end o
   nodes = nodes_done p active n problem lt o [] es start refl d.grows (option_run p n problem lt)
 
-  abbrev gs : List Entry
+  abbrev gs : List TableEntry
   gs = changed (to_down (end - 1)) fs (start - 1)
 
-  abbrev hs : List Entry
+  abbrev hs : List TableEntry
   hs = set gs end (record { top = suc n; up = start; down = 0; left = 0; right = 0 })
 
   appended_is : option_appended es start o (suc n) ≡ hs
@@ -269,13 +269,13 @@ module _ (p : ProblemValue) (active : ℕ → Bool) (n : ℕ) (problem : IsProbl
   spacer_is : (k : ℕ) → 0 < k → k ≤ suc n → (k ≡ suc n) ⊎ (k ≡ suc n → ⊥) → IsSpacer hs (spacer_of p k) k
   spacer_is k a b (inl e) =
       let here = at_set gs end (record { top = suc n; up = start; down = 0; left = 0; right = 0 }) end_low in
-      subst (λ m. IsSpacer hs (spacer_of p m) m) (sym e) (ap (λ (w : Entry). w.top) here, ap next_bytes here)
+      subst (λ m. IsSpacer hs (spacer_of p m) m) (sym e) (ap (λ (w : TableEntry). w.top) here, ap next_bytes here)
   spacer_is k a b (inr ne) =
       let le : k ≤ n = omega (arith, ne) in
       let up = spacer_rises p k n le lt in let low = spacer_low p k a (omega arith) in let l = low.0 in
       let other = set_other gs end (spacer_of p k) (record { top = suc n; up = start; down = 0; left = 0; right = 0 }) (λ e. absurd (omega arith)) in
       let same = nodes.keeps (spacer_of p k) (omega arith) (inl (sooner k a le)) in let was = d.spacers k a le in (
-        ap (λ (w : Entry). w.top) other ∙ kept (λ w. w.top) (to_down (end - 1)) (λ w. refl) fs (start - 1) (spacer_of p k) ∙ same.0 ∙ was.0,
+        ap (λ (w : TableEntry). w.top) other ∙ kept (λ w. w.top) (to_down (end - 1)) (λ w. refl) fs (start - 1) (spacer_of p k) ∙ same.0 ∙ was.0,
         ap next_bytes other ∙ kept next_bytes (to_down (end - 1)) (λ w. refl) fs (start - 1) (spacer_of p k) ∙ same.1 ∙ was.1,
       )
     where

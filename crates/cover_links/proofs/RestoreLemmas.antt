@@ -2,22 +2,22 @@
 -- vertical lists and the row of active items are alike. An entry that left its list and comes back at once finds the block as it was.
 use Rattle.std.proofs.Common.{◌≡◌, ℕ, zero, suc, ◌<◌, ◌⊎◌, inl, inr, List, [], ◌∷◌, length, refl, sym, ap, ◌∙◌, subst, arith}
 use Rattle.std.proofs.lemmas.Bool.{cases_eq}
-use Rattle.cover_links.specs.declared.entry.Entry.{Entry}
+use Rattle.cover_links.specs.declared.entry.TableEntry.{TableEntry}
 use Rattle.cover_links.specs.Entries.{entry_at, changed, to_up, to_down, to_left, to_right, unlinked, relinked, item_unlinked, item_relinked, IsLinked, IsItemLinked, RelinkRestores, ItemRelinkRestores}
 use Rattle.cover_links.proofs.EntryLemmas.{length-changed, kept, at_changed, at_other}
 use Rattle.cover_links.proofs.RingLemmas.{Leaves, leaves_next, leaves_prev}
 
-entry_is : (a b : Entry) → a.top ≡ b.top → a.up ≡ b.up → a.down ≡ b.down → a.left ≡ b.left → a.right ≡ b.right → a ≡ b
+entry_is : (a b : TableEntry) → a.top ≡ b.top → a.up ≡ b.up → a.down ≡ b.down → a.left ≡ b.left → a.right ≡ b.right → a ≡ b
 entry_is a b t u d l r = λ i. record { top = t i; up = u i; down = d i; left = l i; right = r i }
 
-same_entries : (es fs : List Entry) → length es ≡ length fs → ((x : ℕ) → entry_at es x ≡ entry_at fs x) → es ≡ fs
+same_entries : (es fs : List TableEntry) → length es ≡ length fs → ((x : ℕ) → entry_at es x ≡ entry_at fs x) → es ≡ fs
 same_entries [] [] e h = refl
 same_entries [] (f ∷ fs) e h = absurd (omega arith)
 same_entries (e ∷ es) [] l h = absurd (omega arith)
 same_entries (e ∷ es) (f ∷ fs) l h = λ i. h 0 i ∷ same_entries es fs (omega arith) (λ x. h (suc x)) i
 
 -- two changes of one entry that cancel
-pub cancel : (f g : Entry → Entry) (es : List Entry) (z : ℕ) → f (g (entry_at es z)) ≡ entry_at es z → changed f (changed g es z) z ≡ es
+pub cancel : (f g : TableEntry → TableEntry) (es : List TableEntry) (z : ℕ) → f (g (entry_at es z)) ≡ entry_at es z → changed f (changed g es z) z ≡ es
 unfolding changed
 cancel f g [] z h = refl
 cancel f g (e ∷ es) zero h = ap (λ x. x ∷ es) h
@@ -26,17 +26,17 @@ cancel f g (e ∷ es) (suc z) h = ap (λ l. e ∷ l) (cancel f g es z h)
 -- ---- two links and how they are changed
 
 -- a field that neither change touches
-abbrev pub IsKept : (ℕ → Entry → Entry) → (Entry → ℕ) → Type 0
-IsKept change π = (n : ℕ) (e : Entry) → π (change n e) ≡ π e
+abbrev pub IsKept : (ℕ → TableEntry → TableEntry) → (TableEntry → ℕ) → Type 0
+IsKept change π = (n : ℕ) (e : TableEntry) → π (change n e) ≡ π e
 
 -- the links of a list to the next entry and to the one before: each is changed apart from the other, and they and all that is kept
 -- are an entry
-pub record Links (next prev : Entry → ℕ) (to_next to_prev : ℕ → Entry → Entry) : Type 0 where
-  pub next_is : (n : ℕ) (e : Entry) → next (to_next n e) ≡ n
-  pub prev_is : (n : ℕ) (e : Entry) → prev (to_prev n e) ≡ n
+pub record Links (next prev : TableEntry → ℕ) (to_next to_prev : ℕ → TableEntry → TableEntry) : Type 0 where
+  pub next_is : (n : ℕ) (e : TableEntry) → next (to_next n e) ≡ n
+  pub prev_is : (n : ℕ) (e : TableEntry) → prev (to_prev n e) ≡ n
   pub next_kept : IsKept to_prev next
   pub prev_kept : IsKept to_next prev
-  pub same : (a b : Entry) → next a ≡ next b → prev a ≡ prev b → ((π : Entry → ℕ) → IsKept to_next π → IsKept to_prev π → π a ≡ π b) → a ≡ b
+  pub same : (a b : TableEntry) → next a ≡ next b → prev a ≡ prev b → ((π : TableEntry → ℕ) → IsKept to_next π → IsKept to_prev π → π a ≡ π b) → a ≡ b
 
 pub vertical : Links (λ e. e.down) (λ e. e.up) to_down to_up
 vertical = record {
@@ -56,10 +56,10 @@ row = record {
   same = λ a b r l rest. entry_is a b (rest (λ e. e.top) (λ n e. refl) (λ n e. refl)) (rest (λ e. e.up) (λ n e. refl) (λ n e. refl)) (rest (λ e. e.down) (λ n e. refl) (λ n e. refl)) l r;
 }
 
-module _ {next prev : Entry → ℕ} {to_next to_prev : ℕ → Entry → Entry} (links : Links next prev to_next to_prev) where
+module _ {next prev : TableEntry → ℕ} {to_next to_prev : ℕ → TableEntry → TableEntry} (links : Links next prev to_next to_prev) where
   -- the entry at a names d after it, and the entry at b names u before it
-  module _ (es : List Entry) (a d b u : ℕ) where
-    abbrev pub joined : List Entry
+  module _ (es : List TableEntry) (a d b u : ℕ) where
+    abbrev pub joined : List TableEntry
     joined = changed (to_prev u) (changed (to_next d) es a) b
 
     pub length-joined : length joined ≡ length es
@@ -77,18 +77,18 @@ module _ {next prev : Entry → ℕ} {to_next to_prev : ℕ → Entry → Entry}
     pub joined_prev_other : (y : ℕ) → (y ≡ b → ⊥) → prev (entry_at joined y) ≡ prev (entry_at es y)
     joined_prev_other y ne = ap prev (at_other (to_prev u) (changed (to_next d) es a) b y ne) ∙ kept prev (to_next d) (links.prev_kept d) es a y
 
-    pub joined_kept : (π : Entry → ℕ) → IsKept to_next π → IsKept to_prev π → (y : ℕ) → π (entry_at joined y) ≡ π (entry_at es y)
+    pub joined_kept : (π : TableEntry → ℕ) → IsKept to_next π → IsKept to_prev π → (y : ℕ) → π (entry_at joined y) ≡ π (entry_at es y)
     joined_kept π h k y = kept π (to_prev u) (k u) (changed (to_next d) es a) b y ∙ kept π (to_next d) (h d) es a y
 
   -- the entry at x leaves its list, where its neighbours name it
-  module _ (es : List Entry) (x : ℕ) where
+  module _ (es : List TableEntry) (x : ℕ) where
     abbrev d : ℕ
     d = next (entry_at es x)
 
     abbrev u : ℕ
     u = prev (entry_at es x)
 
-    abbrev gone : List Entry
+    abbrev gone : List TableEntry
     gone = joined es u d d u
 
     module _ (before : u < length es) (after : d < length es) (from_before : next (entry_at es u) ≡ x) (from_after : prev (entry_at es d) ≡ x) where
@@ -103,7 +103,7 @@ module _ {next prev : Entry → ℕ} {to_next to_prev : ℕ → Entry → Entry}
       }
 
       -- the block once x came back
-      abbrev back : List Entry
+      abbrev back : List TableEntry
       back = joined gone u x d x
 
       back_next : (y : ℕ) → (y ≡ u) ⊎ (y ≡ u → ⊥) → next (entry_at back y) ≡ next (entry_at es y)
@@ -126,11 +126,11 @@ module _ {next prev : Entry → ℕ} {to_next to_prev : ℕ → Entry → Entry}
 
 -- ---- the vertical lists
 
-pub unlinked_leaves : (es : List Entry) (x : ℕ) → IsLinked es x → Leaves (λ y. (entry_at es y).down) (λ y. (entry_at es y).up) (λ y. (entry_at (unlinked es x) y).down) (λ y. (entry_at (unlinked es x) y).up) x
+pub unlinked_leaves : (es : List TableEntry) (x : ℕ) → IsLinked es x → Leaves (λ y. (entry_at es y).down) (λ y. (entry_at es y).up) (λ y. (entry_at (unlinked es x) y).down) (λ y. (entry_at (unlinked es x) y).up) x
 unfolding unlinked
 unlinked_leaves es x l = leaves vertical es x l.above l.below l.from_above l.from_below
 
-pub unlinked_kept : (es : List Entry) (x : ℕ) (π : Entry → ℕ) → IsKept to_down π → IsKept to_up π → (y : ℕ) → π (entry_at (unlinked es x) y) ≡ π (entry_at es y)
+pub unlinked_kept : (es : List TableEntry) (x : ℕ) (π : TableEntry → ℕ) → IsKept to_down π → IsKept to_up π → (y : ℕ) → π (entry_at (unlinked es x) y) ≡ π (entry_at es y)
 unfolding unlinked
 unlinked_kept es x = joined_kept vertical es _ _ _ _
 
@@ -140,11 +140,11 @@ relink_restores es x l = comes_back vertical es x l.above l.below l.from_above l
 
 -- ---- the row of active items
 
-pub item_unlinked_leaves : (es : List Entry) (x : ℕ) → IsItemLinked es x → Leaves (λ y. (entry_at es y).right) (λ y. (entry_at es y).left) (λ y. (entry_at (item_unlinked es x) y).right) (λ y. (entry_at (item_unlinked es x) y).left) x
+pub item_unlinked_leaves : (es : List TableEntry) (x : ℕ) → IsItemLinked es x → Leaves (λ y. (entry_at es y).right) (λ y. (entry_at es y).left) (λ y. (entry_at (item_unlinked es x) y).right) (λ y. (entry_at (item_unlinked es x) y).left) x
 unfolding item_unlinked
 item_unlinked_leaves es x l = leaves row es x l.before l.after l.from_before l.from_after
 
-pub item_unlinked_kept : (es : List Entry) (x : ℕ) (π : Entry → ℕ) → IsKept to_right π → IsKept to_left π → (y : ℕ) → π (entry_at (item_unlinked es x) y) ≡ π (entry_at es y)
+pub item_unlinked_kept : (es : List TableEntry) (x : ℕ) (π : TableEntry → ℕ) → IsKept to_right π → IsKept to_left π → (y : ℕ) → π (entry_at (item_unlinked es x) y) ≡ π (entry_at es y)
 unfolding item_unlinked
 item_unlinked_kept es x = joined_kept row es _ _ _ _
 

@@ -7,7 +7,7 @@ use Rattle.cover_problem.specs.Covering.{active, remaining, choice}
 use Rattle.cover_problem.proofs.RisingLemmas.{above_is, above_none}
 use Rattle.cover_problem.proofs.ActiveLemmas.{active_rises, active_in}
 use Rattle.cover_problem.proofs.RemainingLemmas.{choice_active, choice_unique, list_uncovered}
-use Rattle.cover_links.specs.declared.entry.Entry.{Entry}
+use Rattle.cover_links.specs.declared.entry.TableEntry.{TableEntry}
 use Rattle.cover_links.specs.StandsFor.{block_of}
 use Rattle.cover_links.specs.Table.{IsTable, nonzero}
 use Rattle.cover_links.proofs.HidingLemmas.{right_at, top_at}
@@ -138,8 +138,8 @@ module _ (p : ProblemValue) (c : List ℕ) where
 
 -- ---- the same of the block's heads
 
-module _ {p : ProblemValue} {c : List ℕ} {items : ℕ} {block : List Entry} {starts : List ℕ} {room : ℕ} (t : IsTable p c items block starts room) where
-  abbrev es : List Entry
+module _ {p : ProblemValue} {c : List ℕ} {items : ℕ} {block : List TableEntry} {starts : List ℕ} {room : ℕ} (t : IsTable p c items block starts room) where
+  abbrev es : List TableEntry
   es = block_of p c
 
   -- the header, or the head of an active item, stands in the block

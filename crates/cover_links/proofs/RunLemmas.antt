@@ -8,12 +8,12 @@ use Rattle.cover_problem.specs.Problem.{ProblemValue, IsProblem, option_at}
 use Rattle.cover_problem.proofs.MemberLemmas.{has_cases, has_here, has_later, has_append_left, has_append_right, has_append_cases, has_append_not_from}
 use Rattle.cover_problem.proofs.PartLemmas.{parts_are, distinct_parts, distinct_from}
 use Rattle.cover_problem.proofs.ActiveLemmas.{option_is, IsOptionOf}
-use Rattle.cover_links.specs.declared.entry.Entry.{Entry}
+use Rattle.cover_links.specs.declared.entry.TableEntry.{TableEntry}
 use Rattle.cover_links.specs.Entries.{entry_at, next_node, HasNext}
 use Rattle.cover_links.specs.Hiding.{node_hidden, node_unhidden, nodes_hidden, nodes_unhidden, until, other_nodes, hidden, unhidden}
 use Rattle.cover_links.specs.Safety.{CanUnhideNode, CanHideNodes, CanUnhideNodes, LeadsTo, GoesRound, CanHide, CanUnhide}
 use Rattle.cover_links.specs.Layout.{node_index, start_of, place_after}
-use Rattle.cover_links.specs.StandsFor.{IsWalk}
+use Rattle.cover_links.specs.StandsFor.{IsListWalk}
 use Rattle.cover_links.proofs.RingLemmas.{without_stays}
 use Rattle.cover_links.proofs.LayoutLemmas.{IsNode, IsRun, option_run, run_parts, place_low, place_apart, spacer_low}
 use Rattle.cover_links.proofs.EntryLemmas.{times_div}
@@ -79,7 +79,7 @@ still_shown p shown k i js none all j h =
     (ap (λ (f : ℕ → Bool). f k) (minus_other shown i k j (λ e. both_ways (has js i) none (subst (λ n. has js n ≡ true) e h))) ∙ a.0, a.1, a.2)
 
 -- a node that is hidden before others may be hidden after them
-first_last : (p : ProblemValue) (active : ℕ → Bool) (k : ℕ) → IsProblem p → (js : List ℕ) (shown : ℕ → ℕ → Bool) (es : List Entry) → Stands p shown active es → (j : ℕ) → AreShown p shown k (j ∷ js) → are_distinct (j ∷ js) ≡ true
+first_last : (p : ProblemValue) (active : ℕ → Bool) (k : ℕ) → IsProblem p → (js : List ℕ) (shown : ℕ → ℕ → Bool) (es : List TableEntry) → Stands p shown active es → (j : ℕ) → AreShown p shown k (j ∷ js) → are_distinct (j ∷ js) ≡ true
     → nodes_hidden (node_hidden es (node_index p j k)) (places p k js) ≡ node_hidden (nodes_hidden es (places p k js)) (node_index p j k)
 first_last p active k problem [] shown es s j all d = refl
 first_last p active k problem (i ∷ js) shown es s j all d = step (first_last p active k problem js (minus shown i k) (node_hidden es (node_index p i k)))
@@ -131,13 +131,13 @@ first_last p active k problem (i ∷ js) shown es s j all d = step (first_last p
         distinct : are_distinct (j ∷ js) ≡ true
         distinct = and_from (not (has js j)) (are_distinct js) (not_from_false (has js j) absent) inner.1
 
-pub record RunDone (p : ProblemValue) (shown : ℕ → ℕ → Bool) (active : ℕ → Bool) (es : List Entry) (k : ℕ) (js : List ℕ) : Type 0 where
+pub record RunDone (p : ProblemValue) (shown : ℕ → ℕ → Bool) (active : ℕ → Bool) (es : List TableEntry) (k : ℕ) (js : List ℕ) : Type 0 where
   pub stands : Stands p (run_gone shown k js) active (nodes_hidden es (places p k js))
   pub can : CanHideNodes es (places p k js)
   pub back : nodes_unhidden (nodes_hidden es (places p k js)) (places p k js) ≡ es
   pub back_can : CanUnhideNodes (nodes_hidden es (places p k js)) (places p k js)
 
-pub run_done : (p : ProblemValue) (active : ℕ → Bool) (k : ℕ) → IsProblem p → (js : List ℕ) (shown : ℕ → ℕ → Bool) (es : List Entry) → Stands p shown active es → are_distinct js ≡ true → AreShown p shown k js → RunDone p shown active es k js
+pub run_done : (p : ProblemValue) (active : ℕ → Bool) (k : ℕ) → IsProblem p → (js : List ℕ) (shown : ℕ → ℕ → Bool) (es : List TableEntry) → Stands p shown active es → are_distinct js ≡ true → AreShown p shown k js → RunDone p shown active es k js
 run_done p active k problem [] shown es s d all = record { stands = s; can = tt; back = refl; back_can = tt }
 run_done p active k problem (j ∷ js) shown es s d all =
     step (run_done p active k problem js (minus shown j k) (node_hidden es (node_index p j k))) (run_done p active k problem js shown es)
@@ -213,7 +213,7 @@ option_was p i shown k j m hi hj h =
     let w = run_was shown k (other_items p i k) j m h in
     (w.0, λ ne e. w.1 (other_item p i k j hi (subst (λ n. has (option_at p n) j ≡ true) e hj) ne) e)
 
-pub record HideDone (p : ProblemValue) (shown : ℕ → ℕ → Bool) (active : ℕ → Bool) (es : List Entry) (x : ℕ) : Type 0 where
+pub record HideDone (p : ProblemValue) (shown : ℕ → ℕ → Bool) (active : ℕ → Bool) (es : List TableEntry) (x : ℕ) : Type 0 where
   pub stands : Stands p shown active (hidden es x)
   pub can : CanHide es x
   pub back : unhidden (hidden es x) x ≡ es
@@ -310,7 +310,7 @@ module _ (p : ProblemValue) (active : ℕ → Bool) (problem : IsProblem p) (i k
       let n : IsNode p j (suc k) = record { some = omega arith; within = omega arith; has_item = other_in j h } in
       both_ways (has others_of i) not_other (subst (λ m. has others_of m ≡ true) (place_apart p j (suc k) i (suc k) n node_here e).0 h)
 
-  module _ (shown : ℕ → ℕ → Bool) (es : List Entry) (s : Stands p shown active es) where
+  module _ (shown : ℕ → ℕ → Bool) (es : List TableEntry) (s : Stands p shown active es) where
     link : (j : ℕ) → has o j ≡ true → bytes_at es (node_index p j (suc k)) ≡ place_after start end (node_index p j (suc k)) * 16
     link j h =
         let e : suc k - 1 ≡ k = omega arith in
@@ -323,7 +323,7 @@ module _ (p : ProblemValue) (active : ℕ → Bool) (problem : IsProblem p) (i k
     has_next j h = subst (λ n. n / 16 * 16 ≡ n) (sym (link j h)) (ap (λ n. n * 16) (times_div (place_after start end (node_index p j (suc k)))))
 
     -- the nodes before q are met after the option's first place, and then q itself
-    walk_before : (js : List ℕ) (a b : ℕ) → ((j : ℕ) → has js j ≡ true → has o j ≡ true) → next_node es a ≡ b → IsRun p (suc k) b js → b + length js ≡ q → IsWalk (next_node es) a (places p (suc k) js) q
+    walk_before : (js : List ℕ) (a b : ℕ) → ((j : ℕ) → has js j ≡ true → has o j ≡ true) → next_node es a ≡ b → IsRun p (suc k) b js → b + length js ≡ q → IsListWalk (next_node es) a (places p (suc k) js) q
     walk_before [] a b all at r e = at ∙ (let f : b ≡ q = omega arith in f)
     walk_before (j ∷ js) a b all at r e =
         let h = all j (has_here j js) in
@@ -331,18 +331,18 @@ module _ (p : ProblemValue) (active : ℕ → Bool) (problem : IsProblem p) (i k
         (at ∙ sym r.0, walk_before js (node_index p j (suc k)) (suc b) (λ i g. all i (has_later j js i g)) on r.1 (omega arith))
 
     -- the nodes after q, and then those
-    walk_after : (js : List ℕ) (a : ℕ) → ((j : ℕ) → has js j ≡ true → has o j ≡ true) → next_node es a ≡ place_after start end a → IsRun p (suc k) (suc a) js → suc a + length js ≡ end → IsWalk (next_node es) a (places p (suc k) (js ++ xs)) q
+    walk_after : (js : List ℕ) (a : ℕ) → ((j : ℕ) → has js j ≡ true → has o j ≡ true) → next_node es a ≡ place_after start end a → IsRun p (suc k) (suc a) js → suc a + length js ≡ end → IsListWalk (next_node es) a (places p (suc k) (js ++ xs)) q
     walk_after [] a all at r e =
         walk_before xs a start (λ j h. subst (λ l. has l j ≡ true) (sym parts) (has_append_left xs (i ∷ ys) j h)) (at ∙ at_end a (omega arith)) runs.0 (sym q_place)
     walk_after (j ∷ js) a all at r e =
         let h = all j (has_here j js) in
         (at ∙ inside a (omega arith) ∙ sym r.0, walk_after js (node_index p j (suc k)) (λ i g. all i (has_later j js i g)) (next_is j h) (subst (λ b. IsRun p (suc k) (suc b) js) (sym r.0) r.1) (let f = r.0 in omega arith))
 
-    round : IsWalk (next_node es) q (places p (suc k) others_of) q
+    round : IsListWalk (next_node es) q (places p (suc k) others_of) q
     round = walk_after ys q (λ j g. subst (λ l. has l j ≡ true) (sym parts) (has_append_right xs (i ∷ ys) j (has_later i ys j g))) (next_is i h) (subst (λ b. IsRun p (suc k) (suc b) ys) (sym q_place) runs.1.1) (let l = long in let z = q_place in omega arith)
 
     -- the way round is walked
-    walked : (js : List ℕ) (a n : ℕ) → ((j : ℕ) → has js j ≡ true → (has o j ≡ true) × (node_index p j (suc k) ≡ q → ⊥)) → IsWalk (next_node es) a (places p (suc k) js) q → length js ≤ n
+    walked : (js : List ℕ) (a n : ℕ) → ((j : ℕ) → has js j ≡ true → (has o j ≡ true) × (node_index p j (suc k) ≡ q → ⊥)) → IsListWalk (next_node es) a (places p (suc k) js) q → length js ≤ n
         → (until (next_node es) q (next_node es a) n ≡ places p (suc k) js) × LeadsTo es q (next_node es a) n
     walked [] a zero all w le = (refl, w)
     walked [] a (suc n) all w le = (until_here (next_node es) q (next_node es a) (suc n) w, inl w)
@@ -362,11 +362,11 @@ module _ (p : ProblemValue) (active : ℕ → Bool) (problem : IsProblem p) (i k
     pub is_round : GoesRound es q
     is_round = record { here = (let z = s.size in let l = place_low p i (suc k) node_here in omega arith); link = has_next i h; leads = whole.1 }
 
-  module _ (shown : ℕ → ℕ → Bool) (es : List Entry) (s : Stands p shown active es) (all : (j : ℕ) → has o j ≡ true → shown j (suc k) ≡ true) where
+  module _ (shown : ℕ → ℕ → Bool) (es : List TableEntry) (s : Stands p shown active es) (all : (j : ℕ) → has o j ≡ true → shown j (suc k) ≡ true) where
     one : RunDone p shown active es (suc k) others_of
     one = run_done p active (suc k) problem others_of shown es s others_distinct (λ j m. let r = option.items j (other_in j m) in (all j (other_in j m), r.0, r.1))
 
-    abbrev all_hidden : List Entry
+    abbrev all_hidden : List TableEntry
     all_hidden = nodes_hidden es (places p (suc k) others_of)
 
     hidden_is : hidden es q ≡ all_hidden

@@ -9,11 +9,11 @@ use denote.Struct.Owning.{shape, fields, to}
 use denote.Param.Send.{IsSend, IsSync, Common, AllSend, part_keyless, owning_send, struct_send, struct_sync, sendable, plain_send, plain_sync, recorded_send, recorded_sync}
 use Rattle.core.specs.declared.alloc.Allocator.{Ghosts}
 use Rattle.std_alloc.proofs.SendSync.{FreesAnywhere, quiet}
-use Rattle.cover_links.specs.declared.entry.Entry.{Entry}
+use Rattle.cover_links.specs.declared.entry.TableEntry.{TableEntry}
 use denote.Struct.Declared as Declared
-use Rattle.cover_links.specs.contracts.entry.Entry as entry
+use Rattle.cover_links.specs.contracts.entry.TableEntry as entry
 use Rattle.cover_links.specs.contracts.entry.Offset as offset
-use Rattle.cover_links.specs.contracts.entry.Entry.{the_row}
+use Rattle.cover_links.specs.contracts.entry.TableEntry.{the_row}
 use Rattle.cover_links.specs.Ownership.{entry_size, slots_own, slots_lent, row_own, row_lent}
 use Rattle.cover_links.specs.contracts.raw.Slots as slots
 use Rattle.cover_links.specs.contracts.raw.Allocation as allocation
@@ -32,21 +32,21 @@ entry_sync : IsSync the_row
 entry_sync =
     recorded_sync (entry.the_field).row _ _ (entry.the_type).to_one (struct_sync (Declared.shape entry.the_type) (offset_sync, (offset_sync, (offset_sync, (plain_sync _ _ _ _ _, (plain_sync _ _ _ _ _, tt))))))
 
-places_cross : (b o : ℕ) (cs : List (Option Entry)) → Keyless (slots_own b o cs)
+places_cross : (b o : ℕ) (cs : List (Option TableEntry)) → Keyless (slots_own b o cs)
 places_cross b o [] = tt
 places_cross b o (Some e ∷ cs) = (part_keyless the_row entry_send full_share e b o, places_cross b (o + entry_size) cs)
 places_cross b o (None ∷ cs) = (tt, places_cross b (o + entry_size) cs)
 
-places_seen : (b o : ℕ) (cs : List (Option Entry)) → Common (slots_lent b o cs)
+places_seen : (b o : ℕ) (cs : List (Option TableEntry)) → Common (slots_lent b o cs)
 places_seen b o [] κ = tt
 places_seen b o (Some e ∷ cs) κ = ((entry_sync).shared e b o κ, places_seen b (o + entry_size) cs κ)
 places_seen b o (None ∷ cs) κ = (tt, places_seen b (o + entry_size) cs κ)
 
-row_crosses : (p : Ptr) (cs : List (Option Entry)) → Keyless (row_own p cs)
+row_crosses : (p : Ptr) (cs : List (Option TableEntry)) → Keyless (row_own p cs)
 row_crosses (block_ptr b o) cs = (tt, places_cross b o cs)
 row_crosses null_ptr cs = tt
 
-row_seen : (p : Ptr) (cs : List (Option Entry)) → Common (row_lent p cs)
+row_seen : (p : Ptr) (cs : List (Option TableEntry)) → Common (row_lent p cs)
 row_seen (block_ptr b o) cs κ = (tt, places_seen b o cs κ)
 row_seen null_ptr cs κ = tt
 

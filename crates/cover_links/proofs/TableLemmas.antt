@@ -13,7 +13,7 @@ use Rattle.cover_problem.proofs.RisingLemmas.{above_is, below_is, last_is}
 use Rattle.cover_problem.proofs.NumberLemmas.{rises_member}
 use Rattle.cover_problem.proofs.ActiveLemmas.{active_rises, active_in, option_is}
 use Rattle.cover_problem.proofs.RemainingLemmas.{list_rises, list_in}
-use Rattle.cover_links.specs.declared.entry.Entry.{Entry}
+use Rattle.cover_links.specs.declared.entry.TableEntry.{TableEntry}
 use Rattle.cover_links.specs.Entries.{entry_at}
 use Rattle.cover_links.specs.Hiding.{item_covered, item_uncovered}
 use Rattle.cover_links.specs.Safety.{CanCoverItem, CanUncoverItem}
@@ -35,15 +35,15 @@ linked_option None h = refl
 linked_option (Some k) h = let f : k == 0 ≡ false = ne_eqb k 0 (λ e. let a = h k refl in absurd (omega arith)) in rw f refl
 
 -- a link to the node of the option that is found, or to the item's head where there is none
-abbrev pub IsLinkTo : List Entry → ℕ → ℕ → Option ℕ → Type 0
+abbrev pub IsLinkTo : List TableEntry → ℕ → ℕ → Option ℕ → Type 0
 IsLinkTo es j node found = (k : ℕ) × IsHeadOrNode es j node k × (nonzero k ≡ found)
 
 -- the head goes by another name
-pub by_head : {es : List Entry} {i j node : ℕ} {found : Option ℕ} → i ≡ j → IsLinkTo es j node found → IsLinkTo es i node found
+pub by_head : {es : List TableEntry} {i j node : ℕ} {found : Option ℕ} → i ≡ j → IsLinkTo es j node found → IsLinkTo es i node found
 by_head {es} {i} {j} {node} {found} e to = subst (λ k. IsLinkTo es k node found) (sym e) to
 
 -- the parts of a table, of the value that contracts see
-pub at_view : {p : ProblemValue} {c : List ℕ} {items : ℕ} {block : List Entry} {starts : List ℕ} {room : ℕ} {v : TableValue} → record { problem = p; covered = c } ≡ v → IsTable p c items block starts room
+pub at_view : {p : ProblemValue} {c : List ℕ} {items : ℕ} {block : List TableEntry} {starts : List ℕ} {room : ℕ} {v : TableValue} → record { problem = p; covered = c } ≡ v → IsTable p c items block starts room
     → IsTable v.problem v.covered items block starts room
 at_view {p} {c} {items} {block} {starts} {room} e t = subst (λ (v : TableValue). IsTable v.problem v.covered items block starts room) e t
 
@@ -51,7 +51,7 @@ pub uncovered_in : {p : ProblemValue} {c : List ℕ} {v : TableValue} {j : ℕ} 
 uncovered_in {p} {c} {v} {j} e u = subst (λ (v : TableValue). IsUncovered v.problem v.covered j) (sym e) u
 
 -- whether a spacer stands at y, as it was read and told
-pub seen_at : (es : List Entry) (y : ℕ) {e : Entry} {b v : Bool} → b ≡ is_spacer e → b ≡ v → e ≡ entry_at es y → is_spacer (entry_at es y) ≡ v
+pub seen_at : (es : List TableEntry) (y : ℕ) {e : TableEntry} {b v : Bool} → b ≡ is_spacer e → b ≡ v → e ≡ entry_at es y → is_spacer (entry_at es y) ≡ v
 seen_at es y told seen read = ap is_spacer (sym read) ∙ sym told ∙ seen
 
 -- inside a list the default is not read
@@ -60,7 +60,7 @@ any_default [] i d f lt = absurd (omega arith)
 any_default (x ∷ xs) zero d f lt = refl
 any_default (x ∷ xs) (suc i) d f lt = any_default xs i d f (omega arith)
 
-module _ {p : ProblemValue} {c : List ℕ} {items : ℕ} {block : List Entry} {starts : List ℕ} {room : ℕ} (t : IsTable p c items block starts room) where
+module _ {p : ProblemValue} {c : List ℕ} {items : ℕ} {block : List TableEntry} {starts : List ℕ} {room : ℕ} (t : IsTable p c items block starts room) where
   pub stands : Stands p (shown_of p c) (active_of p c) block
   stands = subst (λ es. Stands p (shown_of p c) (active_of p c) es) (sym t.block_is) (links_stand p c t.problem t.covered)
 
@@ -176,13 +176,13 @@ module _ {p : ProblemValue} {c : List ℕ} {items : ℕ} {block : List Entry} {s
       linked_option found (λ k h. rises_member 1 k L (list_rises p c j) (inside k h)),
     )
 
-    pub first_leads : {e : Entry} {n : ℕ} → e ≡ entry_at block j → n ≡ e.down → IsLinkTo block j n (above 0 L)
-    first_leads is link = subst (λ n. IsLinkTo block j n (above 0 L)) (sym (link ∙ ap (λ (e : Entry). e.down) is)) (next_leads 0 (inl refl))
+    pub first_leads : {e : TableEntry} {n : ℕ} → e ≡ entry_at block j → n ≡ e.down → IsLinkTo block j n (above 0 L)
+    first_leads is link = subst (λ n. IsLinkTo block j n (above 0 L)) (sym (link ∙ ap (λ (e : TableEntry). e.down) is)) (next_leads 0 (inl refl))
 
-    pub last_leads : {e : Entry} {n : ℕ} → e ≡ entry_at block j → n ≡ e.up → IsLinkTo block j n (last_of L)
+    pub last_leads : {e : TableEntry} {n : ℕ} → e ≡ entry_at block j → n ≡ e.up → IsLinkTo block j n (last_of L)
     last_leads is link =
         let f = subst (λ l. Follows (shown_of p c j) (unwrap_or (last_of l) 0) 0) (shown_list p c j) (last_to_head (shown_of p c j) (length p.options) within) in
-        subst (λ n. IsLinkTo block j n (last_of L)) (sym (link ∙ ap (λ (e : Entry). e.up) is)) (prev_leads 0 (last_of L) f (λ k h. (last_is 1 L k (list_rises p c j) h).0))
+        subst (λ n. IsLinkTo block j n (last_of L)) (sym (link ∙ ap (λ (e : TableEntry). e.up) is)) (prev_leads 0 (last_of L) f (λ k h. (last_is 1 L k (list_rises p c j) h).0))
 
   -- from an option of the item's list
   module _ (j o : ℕ) (m : has (list_of p c j) o ≡ true) where
@@ -195,14 +195,14 @@ module _ {p : ProblemValue} {c : List ℕ} {items : ℕ} {block : List Entry} {s
     pub node_low : {x : ℕ} → x ≡ node_index p j o → x < length block
     node_low at = let low = place_low p j o (record { some = member.1; within = member.2; has_item = member.0 }) in let s = (stands).size in omega arith
 
-    pub next_from : {x : ℕ} {e : Entry} {n : ℕ} → x ≡ node_index p j o → e ≡ entry_at block x → n ≡ e.down → IsLinkTo block j n (above o (list_of p c j))
+    pub next_from : {x : ℕ} {e : TableEntry} {n : ℕ} → x ≡ node_index p j o → e ≡ entry_at block x → n ≡ e.down → IsLinkTo block j n (above o (list_of p c j))
     next_from at is link =
-        subst (λ n. IsLinkTo block j n (above o (list_of p c j))) (sym (link ∙ ap (λ (e : Entry). e.down) (is ∙ ap (entry_at block) at))) (next_leads j item.0 item.1 o (inr (is_shown j item.0 item.1 o m)))
+        subst (λ n. IsLinkTo block j n (above o (list_of p c j))) (sym (link ∙ ap (λ (e : TableEntry). e.down) (is ∙ ap (entry_at block) at))) (next_leads j item.0 item.1 o (inr (is_shown j item.0 item.1 o m)))
 
-    pub prev_from : {x : ℕ} {e : Entry} {n : ℕ} → x ≡ node_index p j o → e ≡ entry_at block x → n ≡ e.up → IsLinkTo block j n (below o (list_of p c j))
+    pub prev_from : {x : ℕ} {e : TableEntry} {n : ℕ} → x ≡ node_index p j o → e ≡ entry_at block x → n ≡ e.up → IsLinkTo block j n (below o (list_of p c j))
     prev_from at is link =
         let f = subst (λ l. Follows (shown_of p c j) (unwrap_or (below o l) 0) o) (shown_list p c j) (prev_is (shown_of p c j) (length p.options) (within j item.0 item.1) o (is_shown j item.0 item.1 o m)) in
-        subst (λ n. IsLinkTo block j n (below o (list_of p c j))) (sym (link ∙ ap (λ (e : Entry). e.up) (is ∙ ap (entry_at block) at)))
+        subst (λ n. IsLinkTo block j n (below o (list_of p c j))) (sym (link ∙ ap (λ (e : TableEntry). e.up) (is ∙ ap (entry_at block) at)))
         (prev_leads j item.0 item.1 o (below o (list_of p c j)) f (λ k h. (below_is o 1 (list_of p c j) k (list_rises p c j) h).member))
 
   -- where the option after the first k begins, as it is read
@@ -264,7 +264,7 @@ module _ {p : ProblemValue} {c : List ℕ} {items : ℕ} {block : List Entry} {s
   pub covers_can : {j : ℕ} → IsUncovered p c j → CanCoverItem block j
   covers_can {j} u = subst (λ b. CanCoverItem b j) (sym t.block_is) (step_done p c j t.problem t.covered u).can
 
-  pub covers : {j new_room : ℕ} {new_block : List Entry} {new_covered : List ℕ} → IsUncovered p c j → new_block ≡ item_covered block j → new_covered ≡ c ++ j ∷ [] → new_room ≡ room → IsTable p new_covered items new_block starts new_room
+  pub covers : {j new_room : ℕ} {new_block : List TableEntry} {new_covered : List ℕ} → IsUncovered p c j → new_block ≡ item_covered block j → new_covered ≡ c ++ j ∷ [] → new_room ≡ room → IsTable p new_covered items new_block starts new_room
   covers {j} u now list same = record {
     problem = t.problem;
     covered = subst (IsCoveredList p) (sym list) (covered_push p c j t.covered u);
@@ -288,7 +288,7 @@ module _ {p : ProblemValue} {c : List ℕ} {items : ℕ} {block : List Entry} {s
     pub uncovers_can : CanUncoverItem block j
     uncovers_can = subst (λ b. CanUncoverItem b j) (sym now_is) done.back_can
 
-    pub uncovers : {n new_room : ℕ} {new_block : List Entry} {new_covered : List ℕ} → new_block ≡ item_uncovered block j → new_covered ≡ take (n - 1) c → n ≡ length c → new_room ≡ room → IsTable p new_covered items new_block starts new_room
+    pub uncovers : {n new_room : ℕ} {new_block : List TableEntry} {new_covered : List ℕ} → new_block ≡ item_uncovered block j → new_covered ≡ take (n - 1) c → n ≡ length c → new_room ≡ room → IsTable p new_covered items new_block starts new_room
     uncovers {n} {new_room} {new_block} {new_covered} now rest size same =
         let long = ap length front.1 ∙ length-append front.0 (j ∷ []) in
         let less : n - 1 ≡ length front.0 = omega arith in

@@ -1,7 +1,7 @@
 -- The entries of a block with the place where they lie.
 use Rattle.std.specs.Prelude.{ℕ, List}
 use denote.RawPtr.{Ptr}
-use Rattle.cover_links.specs.declared.entry.Entry.{Entry}
+use Rattle.cover_links.specs.declared.entry.TableEntry.{TableEntry}
 
 -- where a row begins, and how many entries it has room for
 pub record Place : Type 0 where
@@ -15,4 +15,4 @@ place at len = record { at = at; len = len }
 -- a row: where it lies, and its entries
 pub record RowValue : Type 0 where
   pub place : Place
-  pub entries : List Entry
+  pub entries : List TableEntry

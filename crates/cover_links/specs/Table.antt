@@ -2,14 +2,14 @@
 use Rattle.std.specs.Prelude.{◌≡◌, ℕ, suc, ◌<◌, ◌≤◌, ◌^◌, ◌⊎◌, ◌==◌, nat_lt, ◌&&◌, Bool, true, false, cond, pos, ◌-ℤ◌, Option, Some, None, List, length, get_or}
 use Rattle.cover_problem.specs.Problem.{ProblemValue, IsProblem}
 use Rattle.cover_problem.specs.Table.{IsCoveredList}
-use Rattle.cover_links.specs.declared.entry.Entry.{Entry}
+use Rattle.cover_links.specs.declared.entry.TableEntry.{TableEntry}
 use Rattle.cover_links.specs.declared.entry.Node.{Node}
 use Rattle.cover_links.specs.Entries.{entry_at, next_bytes}
 use Rattle.cover_links.specs.Layout.{start_of}
 use Rattle.cover_links.specs.StandsFor.{block_of}
 
 -- the parts of a table
-pub record IsTable (p : ProblemValue) (c : List ℕ) (items : ℕ) (block : List Entry) (starts : List ℕ) (room : ℕ) : Type 0 where
+pub record IsTable (p : ProblemValue) (c : List ℕ) (items : ℕ) (block : List TableEntry) (starts : List ℕ) (room : ℕ) : Type 0 where
   pub problem : IsProblem p
   pub covered : IsCoveredList p c
   pub items_are : items ≡ length p.names
@@ -23,11 +23,11 @@ abbrev pub nonzero : ℕ → Option ℕ
 nonzero n = cond (n == 0) None (Some n)
 
 -- past the heads an entry that leads to no next node is a spacer
-abbrev pub is_spacer : Entry → Bool
+abbrev pub is_spacer : TableEntry → Bool
 is_spacer e = next_bytes e == 0
 
 -- an entry as the literature prints it
-abbrev pub printed_node : ℕ → ℕ → Entry → Node
+abbrev pub printed_node : ℕ → ℕ → TableEntry → Node
 printed_node items x e = record {
   top_or_len = cond (nat_lt items x && is_spacer e) (pos 0 -ℤ pos e.top) (pos e.top);
   up = e.up;
@@ -35,7 +35,7 @@ printed_node items x e = record {
 }
 
 -- a node of the option numbered k, which has its number at the spacer past it
-pub record IsNodeOf (es : List Entry) (item node spacer k : ℕ) : Type 0 where
+pub record IsNodeOf (es : List TableEntry) (item node spacer k : ℕ) : Type 0 where
   pub apart : node ≡ item → ⊥
   pub past : node < spacer
   pub within : spacer < length es
@@ -46,5 +46,5 @@ pub record IsNodeOf (es : List Entry) (item node spacer k : ℕ) : Type 0 where
   pub some : 0 < k
 
 -- the item's head, where k is 0, or a node of the option numbered k
-abbrev pub IsHeadOrNode : List Entry → ℕ → ℕ → ℕ → Type 0
+abbrev pub IsHeadOrNode : List TableEntry → ℕ → ℕ → ℕ → Type 0
 IsHeadOrNode es item node k = ((node ≡ item) × (k ≡ 0)) ⊎ ((spacer : ℕ) × IsNodeOf es item node spacer k)

@@ -4,7 +4,7 @@ ghost use Rattle.cover_problem.specs.Answers.{Returns};
 ghost use Rattle.cover_links.specs.Ownership.{entry_size, FitsInBlock};
 ghost use Rattle.cover_links.specs.Entries.{entry_at};
 
-use crate::entry::{Entry, Offset};
+use crate::entry::{TableEntry, Offset};
 use crate::raw::{Allocation, Base, Slots, allocate, deallocate};
 use std::alloc::{AllocError, Allocator, Global};
 use std::marker::Model;
@@ -12,12 +12,12 @@ use std::mem::size_of;
 
 /// The entries of a block, apart from where they begin. Who goes through many of them keeps that address by value: a compiler
 /// would load it again from the block after each entry that is written.
-pub(crate) struct Row {
+pub(crate) struct BlockRow {
     len: usize,
     slots: Slots,
 }
 
-impl Model for Row {
+impl Model for BlockRow {
     ghost use Rattle.std.specs.Prelude.{◌≡◌, length};
     ghost use Rattle.cover_links.specs.Slots.{values, IsFull};
     ghost use Rattle.cover_links.specs.Row.{RowValue, place};
@@ -29,10 +29,10 @@ impl Model for Row {
     ghost invariant = { λ r. (length r.slots.slots ≡ r.len) × IsFull r.slots.slots };
 }
 
-impl Row {
+impl BlockRow {
     /// The entry that has so many bytes before it, by where the row begins.
     #[inline(always)]
-    fn read_at(&self, base: Base, bytes: usize) -> Entry
+    fn read_at(&self, base: Base, bytes: usize) -> TableEntry
         requires place { base.ptr ≡ self.now.place.at }
         requires within { (i : ℕ) × (bytes ≡ i * entry_size) × (i < length self.now.entries) }
         ensures { (i : ℕ) → bytes ≡ i * entry_size → result ≡ entry_at self.now.entries i }
@@ -42,7 +42,7 @@ impl Row {
 
     /// Puts an entry there.
     #[inline(always)]
-    fn write_at(&mut self, base: Base, bytes: usize, entry: Entry)
+    fn write_at(&mut self, base: Base, bytes: usize, entry: TableEntry)
         requires place { base.ptr ≡ self.old.place.at }
         requires within { (i : ℕ) × (bytes ≡ i * entry_size) × (i < length self.old.entries) }
         ensures place { self.new.place ≡ self.old.place }
@@ -53,7 +53,7 @@ impl Row {
 
     /// The entry at an offset, by where the row begins.
     #[inline(always)]
-    pub fn read(&self, base: Base, offset: Offset) -> Entry
+    pub fn read(&self, base: Base, offset: Offset) -> TableEntry
         requires place { base.ptr ≡ self.now.place.at }
         requires within { offset < length self.now.entries }
         ensures { result ≡ entry_at self.now.entries offset }
@@ -63,7 +63,7 @@ impl Row {
 
     /// Puts an entry at an offset, by where the row begins.
     #[inline(always)]
-    pub fn write(&mut self, base: Base, offset: Offset, entry: Entry)
+    pub fn write(&mut self, base: Base, offset: Offset, entry: TableEntry)
         requires place { base.ptr ≡ self.old.place.at }
         requires within { offset < length self.old.entries }
         ensures place { self.new.place ≡ self.old.place }
@@ -77,16 +77,16 @@ impl Row {
 /// that is dropped goes back to its allocator.
 pub struct Block<A: Allocator = Global> {
     pub(crate) base: Base,
-    pub(crate) row: Row,
+    pub(crate) row: BlockRow,
     allocation: Allocation<A>,
     alloc: A,
 }
 
 impl<A: Allocator> Model for Block<A> {
     ghost use Rattle.std.specs.Prelude.{◌≡◌, List};
-    ghost use Rattle.cover_links.specs.declared.entry.Entry.{Entry};
+    ghost use Rattle.cover_links.specs.declared.entry.TableEntry.{TableEntry};
 
-    ghost Value = { List Entry };
+    ghost Value = { List TableEntry };
 
     ghost view = { λ a. a.row.entries };
 
@@ -96,7 +96,7 @@ impl<A: Allocator> Model for Block<A> {
 
 impl<A: Allocator> Block<A> {
     /// A block of so many entries, each the one given.
-    pub fn make(alloc: A, len: usize, blank: Entry) -> Result<Block<A>, AllocError>
+    pub fn make(alloc: A, len: usize, blank: TableEntry) -> Result<Block<A>, AllocError>
         requires { FitsInBlock len }
         ensures { Returns result (replicate len blank) }
     {
@@ -105,11 +105,11 @@ impl<A: Allocator> Block<A> {
         // Copied through a reference: round a loop the prover follows no copy of an argument whose type has a model in it.
         let each = &blank;
         for index in 0..len {
-            slots.put(base, index * size_of::<Entry>(), *each);
+            slots.put(base, index * size_of::<TableEntry>(), *each);
         }
         Ok(Block {
             base,
-            row: Row { len, slots },
+            row: BlockRow { len, slots },
             allocation,
             alloc,
         })
@@ -117,7 +117,7 @@ impl<A: Allocator> Block<A> {
 
     /// The entry that has so many bytes before it.
     #[inline(always)]
-    pub(crate) fn read_at(&self, bytes: usize) -> Entry
+    pub(crate) fn read_at(&self, bytes: usize) -> TableEntry
         requires { (i : ℕ) × (bytes ≡ i * entry_size) × (i < length self.now) }
         ensures { (i : ℕ) → bytes ≡ i * entry_size → result ≡ entry_at self.now i }
     {
@@ -126,22 +126,22 @@ impl<A: Allocator> Block<A> {
 
     /// The entry at an index.
     #[inline(always)]
-    pub fn read(&self, index: u32) -> Entry
+    pub fn read(&self, index: u32) -> TableEntry
         requires { index < length self.now }
         ensures { result ≡ entry_at self.now index }
     {
         self.row
-            .read_at(self.base, index as usize * size_of::<Entry>())
+            .read_at(self.base, index as usize * size_of::<TableEntry>())
     }
 
     /// Puts an entry at an index.
     #[inline(always)]
-    pub fn write(&mut self, index: u32, entry: Entry)
+    pub fn write(&mut self, index: u32, entry: TableEntry)
         requires { index < length self.old }
         ensures { self.new ≡ slice_set self.old index entry }
     {
         self.row
-            .write_at(self.base, index as usize * size_of::<Entry>(), entry)
+            .write_at(self.base, index as usize * size_of::<TableEntry>(), entry)
     }
 }
 
@@ -154,7 +154,7 @@ impl<A: Allocator> Drop for Block<A> {
             allocation,
             alloc,
         } = self;
-        let Row { len, slots } = row;
+        let BlockRow { len, slots } = row;
         deallocate(&alloc, base, len, slots, allocation);
     }
 }

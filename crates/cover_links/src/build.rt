@@ -8,7 +8,7 @@ ghost use Rattle.cover_links.specs.Layout.{AreStarts};
 ghost use Rattle.cover_links.specs.Safety.{CanAppendNode, CanAppendOption};
 
 use crate::block::Block;
-use crate::entry::{Entry, Offset};
+use crate::entry::{TableEntry, Offset};
 use crate::hiding::append_to_list;
 use cover_problem::Problem;
 use std::alloc::{AllocError, Global};
@@ -32,7 +32,7 @@ pub(crate) fn starts(alloc: Global, problem: &Problem) -> Result<Vec<u32>, Alloc
 }
 
 /// The head of an item whose list is empty.
-fn empty_head(item: u16, primary: u16) -> Entry
+fn empty_head(item: u16, primary: u16) -> TableEntry
     requires { 0 < item }
     ensures { result ≡ list.empty_head primary item }
 {
@@ -40,7 +40,7 @@ fn empty_head(item: u16, primary: u16) -> Entry
     let is_primary = item <= primary;
     let after = if item < primary { item + 1 } else { 0 };
     let head = Offset::at(item as u32);
-    Entry {
+    TableEntry {
         top: Offset::at(0),
         up: head,
         down: head,
@@ -58,11 +58,11 @@ fn write_heads(block: &mut Block, items: u32, primary: u32)
 {
     block.write(
         0,
-        Entry {
+        TableEntry {
             // The row of active items is a ring through the header, before which the last item to cover stands.
             left: primary as u16,
             right: 1,
-            ..Entry::blank()
+            ..TableEntry::blank()
         },
     );
     for item in 1..items + 1 {
@@ -88,7 +88,7 @@ fn append_node(block: &mut Block, index: u32, item: u32, next: u32)
     // A node is appended as one that is put back: it names the last of the list and the head, which then name it and count it.
     block.write(
         index,
-        Entry {
+        TableEntry {
             top: head,
             up,
             down: head,
@@ -116,18 +116,18 @@ fn append_option(block: &mut Block, start: u32, option: &[u32], number: u32)
     let before = block.read(start - 1);
     block.write(
         start - 1,
-        Entry {
+        TableEntry {
             down: Offset::at(end - 1),
             ..before
         },
     );
     block.write(
         end,
-        Entry {
+        TableEntry {
             // The literature negates the number, by which it tells a spacer from a node. Here a spacer leads to no next node.
             top: Offset::at(number),
             up: Offset::at(start),
-            ..Entry::blank()
+            ..TableEntry::blank()
         },
     );
 }
@@ -141,7 +141,7 @@ pub(crate) fn fresh(alloc: Global, problem: &Problem, starts: &[u32]) -> Result<
     let items = problem.items();
     let options = problem.options();
     // The block is made at its full size: a block that grows would be copied.
-    let mut block = Block::make(alloc, starts[options as usize] as usize, Entry::blank())?;
+    let mut block = Block::make(alloc, starts[options as usize] as usize, TableEntry::blank())?;
     write_heads(&mut block, items, problem.primary());
     for k in 0..options {
         append_option(&mut block, starts[k as usize], problem.option(k + 1), k + 1);

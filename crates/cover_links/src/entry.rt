@@ -109,7 +109,7 @@ impl Offset {
 /// are items, or halves of an offset.
 // Sixteen bytes: four stand in a line of the processor's cache.
 #[derive(Clone, Copy)]
-pub struct Entry {
+pub struct TableEntry {
     /// Of a head the length of its list, of a node its item, of a spacer the number of the option before it. One field serves all, so
     /// a length and a number are kept as an item is.
     pub top: Offset,
@@ -124,13 +124,13 @@ pub struct Entry {
     pub right: u16,
 }
 
-impl Entry {
+impl TableEntry {
     /// An entry that names nothing.
-    pub fn blank() -> Entry
+    pub fn blank() -> TableEntry
         ensures { result ≡ record { top = 0; up = 0; down = 0; left = 0; right = 0 } }
     {
         let nothing = Offset::at(0);
-        Entry {
+        TableEntry {
             top: nothing,
             up: nothing,
             down: nothing,

@@ -6,84 +6,84 @@ ghost use Rattle.cover_links.specs.Entries as entries;
 ghost use Rattle.cover_links.specs.Hiding.{node_hidden, node_unhidden, hidden, unhidden, item_covered, item_uncovered};
 ghost use Rattle.cover_links.specs.Safety.{IsInside, IsItemInside, CanHideNode, CanUnhideNode, CanHide, CanUnhide, CanCoverItem, CanUncoverItem};
 
-use crate::block::{Block, Row};
-use crate::entry::{Entry, Offset};
+use crate::block::{Block, BlockRow};
+use crate::entry::{TableEntry, Offset};
 use crate::raw::Base;
 
 /// Lets an entry's neighbours in its vertical list name each other.
 #[inline(always)]
-fn unlink(row: &mut Row, base: Base, index: Offset)
+fn unlink(row: &mut BlockRow, base: Base, index: Offset)
     requires place { base.ptr ≡ row.old.place.at }
     requires can { IsInside row.old.entries index }
     ensures place { row.new.place ≡ row.old.place }
     ensures entries { row.new.entries ≡ unlinked row.old.entries index }
 {
     // The entry keeps its own links, by which it can be put back (formulas (1) and (2)).
-    let Entry { up, down, .. } = row.read(base, index);
+    let TableEntry { up, down, .. } = row.read(base, index);
     let above = row.read(base, up);
-    row.write(base, up, Entry { down, ..above });
+    row.write(base, up, TableEntry { down, ..above });
     // Read after the entry above is written: in a list of one node both are the head.
     let below = row.read(base, down);
-    row.write(base, down, Entry { up, ..below });
+    row.write(base, down, TableEntry { up, ..below });
 }
 
 /// Lets them name the entry again.
 #[inline(always)]
-fn relink(row: &mut Row, base: Base, index: Offset)
+fn relink(row: &mut BlockRow, base: Base, index: Offset)
     requires place { base.ptr ≡ row.old.place.at }
     requires can { IsInside row.old.entries index }
     ensures place { row.new.place ≡ row.old.place }
     ensures entries { row.new.entries ≡ relinked row.old.entries index }
 {
-    let Entry { up, down, .. } = row.read(base, index);
+    let TableEntry { up, down, .. } = row.read(base, index);
     let above = row.read(base, up);
     row.write(
         base,
         up,
-        Entry {
+        TableEntry {
             down: index,
             ..above
         },
     );
     let below = row.read(base, down);
-    row.write(base, down, Entry { up: index, ..below });
+    row.write(base, down, TableEntry { up: index, ..below });
 }
 
 /// Lets an item's neighbours in the row of active items name each other.
 #[inline(always)]
-fn unlink_item(row: &mut Row, base: Base, item: Offset)
+fn unlink_item(row: &mut BlockRow, base: Base, item: Offset)
     requires place { base.ptr ≡ row.old.place.at }
     requires can { IsItemInside row.old.entries item }
     ensures place { row.new.place ≡ row.old.place }
     ensures entries { row.new.entries ≡ item_unlinked row.old.entries item }
 {
-    let Entry { left, right, .. } = row.read(base, item);
+    let TableEntry { left, right, .. } = row.read(base, item);
     // The number of an item is the place of its head.
     let place = Offset::at(left as u32);
     let before = row.read(base, place);
-    row.write(base, place, Entry { right, ..before });
+    row.write(base, place, TableEntry { right, ..before });
     let place = Offset::at(right as u32);
     let after = row.read(base, place);
-    row.write(base, place, Entry { left, ..after });
+    row.write(base, place, TableEntry { left, ..after });
 }
 
 /// Lets them name the item again.
 #[inline(always)]
-fn relink_item(row: &mut Row, base: Base, item: Offset)
+fn relink_item(row: &mut BlockRow, base: Base, item: Offset)
     requires place { base.ptr ≡ row.old.place.at }
     requires inside { IsItemInside row.old.entries item }
     requires small { item < 2 ^ 16 }
     ensures place { row.new.place ≡ row.old.place }
     ensures entries { row.new.entries ≡ item_relinked row.old.entries item }
 {
-    let Entry { left, right, .. } = row.read(base, item);
+    let TableEntry { left, right, .. } = row.read(base, item);
     let number = item.index() as u16;
     let place = Offset::at(left as u32);
     let before = row.read(base, place);
     row.write(
         base,
         place,
-        Entry {
+        TableEntry {
             right: number,
             ..before
         },
@@ -93,7 +93,7 @@ fn relink_item(row: &mut Row, base: Base, item: Offset)
     row.write(
         base,
         place,
-        Entry {
+        TableEntry {
             left: number,
             ..after
         },
@@ -102,7 +102,7 @@ fn relink_item(row: &mut Row, base: Base, item: Offset)
 
 /// Takes a node out of its list, which is one shorter.
 #[inline(always)]
-fn hide_node(row: &mut Row, base: Base, index: Offset)
+fn hide_node(row: &mut BlockRow, base: Base, index: Offset)
     requires place { base.ptr ≡ row.old.place.at }
     requires can { CanHideNode row.old.entries index }
     ensures place { row.new.place ≡ row.old.place }
@@ -115,7 +115,7 @@ fn hide_node(row: &mut Row, base: Base, index: Offset)
     row.write(
         base,
         item,
-        Entry {
+        TableEntry {
             top: head.top.minus(1),
             ..head
         },
@@ -124,7 +124,7 @@ fn hide_node(row: &mut Row, base: Base, index: Offset)
 
 /// Puts a node back into its list.
 #[inline(always)]
-fn unhide_node(row: &mut Row, base: Base, index: Offset)
+fn unhide_node(row: &mut BlockRow, base: Base, index: Offset)
     requires place { base.ptr ≡ row.old.place.at }
     requires can { CanUnhideNode row.old.entries index }
     ensures place { row.new.place ≡ row.old.place }
@@ -136,7 +136,7 @@ fn unhide_node(row: &mut Row, base: Base, index: Offset)
     row.write(
         base,
         item,
-        Entry {
+        TableEntry {
             top: head.top.plus(1),
             ..head
         },
@@ -146,7 +146,7 @@ fn unhide_node(row: &mut Row, base: Base, index: Offset)
 
 /// The next node of a node's option, by which no spacer is read. (Formula (13) steps onto the spacer, and goes back by its link.)
 #[inline(always)]
-fn next_of(node: Entry) -> Offset
+fn next_of(node: TableEntry) -> Offset
     requires { HasNext node }
     ensures { result ≡ entries.next_of node }
 {
@@ -155,7 +155,7 @@ fn next_of(node: Entry) -> Offset
 
 /// Hides the other nodes of a node's option, from the one after it on, round the option.
 #[inline(always)]
-fn hide(row: &mut Row, base: Base, index: Offset)
+fn hide(row: &mut BlockRow, base: Base, index: Offset)
     requires place { base.ptr ≡ row.old.place.at }
     requires can { CanHide row.old.entries index }
     ensures place { row.new.place ≡ row.old.place }
@@ -172,7 +172,7 @@ fn hide(row: &mut Row, base: Base, index: Offset)
 /// Puts them back, in the same order. (Formula (15) takes the reverse one, but each node stands in a list of its own, so that any
 /// order does.)
 #[inline(always)]
-fn unhide(row: &mut Row, base: Base, index: Offset)
+fn unhide(row: &mut BlockRow, base: Base, index: Offset)
     requires place { base.ptr ≡ row.old.place.at }
     requires can { CanUnhide row.old.entries index }
     ensures place { row.new.place ≡ row.old.place }
@@ -186,7 +186,7 @@ fn unhide(row: &mut Row, base: Base, index: Offset)
 }
 
 /// Hides the options of an item's list, and takes it out of the row of active items.
-fn cover_in(row: &mut Row, base: Base, item: Offset)
+fn cover_in(row: &mut BlockRow, base: Base, item: Offset)
     requires place { base.ptr ≡ row.old.place.at }
     requires can { CanCoverItem row.old.entries item }
     ensures place { row.new.place ≡ row.old.place }
@@ -204,7 +204,7 @@ fn cover_in(row: &mut Row, base: Base, item: Offset)
 }
 
 /// Undoes that for the item that was covered last.
-fn uncover_in(row: &mut Row, base: Base, item: Offset)
+fn uncover_in(row: &mut BlockRow, base: Base, item: Offset)
     requires place { base.ptr ≡ row.old.place.at }
     requires can { CanUncoverItem row.old.entries item }
     ensures place { row.new.place ≡ row.old.place }

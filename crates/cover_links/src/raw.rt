@@ -4,16 +4,16 @@ ghost use Rattle.std.specs.Prelude.{◌≡◌, ℕ, ◌*◌, ◌<◌, ◌≤◌,
 ghost use base.Fml.{ftrue};
 ghost use denote.RawPtr.{Ptr};
 ghost use Rattle.cover_links.specs.Ownership.{row_own, row_lent, allocation_owns, entry_size, FitsInBlock};
-ghost use Rattle.cover_links.specs.declared.entry.Entry.{Entry};
+ghost use Rattle.cover_links.specs.declared.entry.TableEntry.{TableEntry};
 
-use crate::entry::Entry;
+use crate::entry::TableEntry;
 use std::alloc::{AllocError, Allocator};
 use std::marker::{Model, PhantomData, Send, Sync};
 use std::mem::{align_of, size_of};
 
 /// Where the row begins. It owns nothing.
 pub struct Base {
-    pub ptr: *mut Entry,
+    pub ptr: *mut TableEntry,
 }
 
 impl Clone for Base {
@@ -35,9 +35,9 @@ unsafe impl Sync for Base {}
 
 /// The owner of the places. It takes no space.
 pub struct Slots {
-    mark: PhantomData<*const Entry>,
+    mark: PhantomData<*const TableEntry>,
     ghost at: { Ptr },
-    ghost slots: { List (Option Entry) },
+    ghost slots: { List (Option TableEntry) },
 }
 
 impl Model for Slots {
@@ -78,10 +78,10 @@ pub(crate) fn allocate<A: Allocator>(
     ensures { IfOk result (λ r. (r.1.at ≡ r.0.ptr) × (r.1.slots ≡ replicate len None) × (r.2.at ≡ r.0.ptr)
         × (r.2.len ≡ len) × (r.2.alloc ≡ alloc.now)) }
 {
-    match alloc.allocate(len * size_of::<Entry>(), align_of::<Entry>()) {
+    match alloc.allocate(len * size_of::<TableEntry>(), align_of::<TableEntry>()) {
         Ok(block) => {
             let base = Base {
-                ptr: block as *mut Entry,
+                ptr: block as *mut TableEntry,
             };
             Ok((
                 base,
@@ -110,8 +110,8 @@ pub(crate) fn deallocate<A: Allocator>(
     unsafe {
         alloc.deallocate(
             base.ptr as *mut u8,
-            len * size_of::<Entry>(),
-            align_of::<Entry>(),
+            len * size_of::<TableEntry>(),
+            align_of::<TableEntry>(),
         );
     }
 }
@@ -119,23 +119,23 @@ pub(crate) fn deallocate<A: Allocator>(
 impl Slots {
     /// The entry at a place, which is told by the bytes before it.
     #[inline(always)]
-    pub(crate) fn get(&self, base: Base, bytes: usize) -> &Entry
+    pub(crate) fn get(&self, base: Base, bytes: usize) -> &TableEntry
         requires { (base.ptr ≡ self.now.at) × ((i : ℕ) × (bytes ≡ i * entry_size)
-            × ((x : Entry) × (get_or self.now.slots i None ≡ Some x))) }
+            × ((x : TableEntry) × (get_or self.now.slots i None ≡ Some x))) }
         ensures { (i : ℕ) → bytes ≡ i * entry_size → get_or self.now.slots i None ≡ Some result.now }
     {
         // What makes it safe is the clause above: the bytes lead to a place of the row, and an entry was put there.
-        unsafe { &*((base.ptr as *mut u8).add(bytes) as *mut Entry) }
+        unsafe { &*((base.ptr as *mut u8).add(bytes) as *mut TableEntry) }
     }
 
     /// Puts an entry into a place, over what stood there.
     #[inline(always)]
-    pub(crate) fn put(&mut self, base: Base, bytes: usize, entry: Entry)
+    pub(crate) fn put(&mut self, base: Base, bytes: usize, entry: TableEntry)
         requires { (base.ptr ≡ self.old.at) × ((i : ℕ) × (bytes ≡ i * entry_size) × (i < length self.old.slots)) }
         ensures { (self.new.at ≡ self.old.at)
             × ((i : ℕ) → bytes ≡ i * entry_size → self.new.slots ≡ slice_set self.old.slots i (Some entry)) }
     {
         // What makes it safe is the clause above: the bytes lead to a place of the row. What stood there needs no drop.
-        unsafe { ((base.ptr as *mut u8).add(bytes) as *mut Entry).write(entry) }
+        unsafe { ((base.ptr as *mut u8).add(bytes) as *mut TableEntry).write(entry) }
     }
 }

@@ -13,7 +13,7 @@ ghost use Rattle.cover_links.specs.Table as table;
 
 use crate::block::Block;
 use crate::build::{fresh, starts};
-use crate::entry::{Entry, Node, Offset};
+use crate::entry::{TableEntry, Node, Offset};
 use crate::hiding::{cover_item, uncover_item};
 use cover_problem::{Problem, Table};
 use std::alloc::{AllocError, Global};
@@ -57,7 +57,7 @@ fn nonzero(item: u32) -> Option<u32>
 
 /// Whether an entry past the heads is a spacer: it leads to no next node.
 #[inline(always)]
-fn is_spacer(entry: Entry) -> bool
+fn is_spacer(entry: TableEntry) -> bool
     ensures { result ≡ table.is_spacer entry }
 {
     entry.left as u32 + entry.right as u32 * 65536 == 0
@@ -74,9 +74,9 @@ fn option_at(block: &Block, item: Offset, node: Offset) -> Option<u32>
         return None;
     }
     // Past the option stands its spacer, which has the number: a node has no room for it. An option has few nodes.
-    let mut past = node.bytes() + size_of::<Entry>();
+    let mut past = node.bytes() + size_of::<TableEntry>();
     while !is_spacer(block.read_at(past)) {
-        past += size_of::<Entry>();
+        past += size_of::<TableEntry>();
     }
     Some(block.read_at(past).top.index())
 }
@@ -117,14 +117,14 @@ impl LinkTable {
     {
         // The search keeps the numbers of options, where the literature keeps nodes: so an option of few items is gone through. To its
         // end, since which of its nodes is the item's can't be foretold: no jump hangs on it.
-        let mut past = self.starts[(option - 1) as usize] as usize * size_of::<Entry>();
+        let mut past = self.starts[(option - 1) as usize] as usize * size_of::<TableEntry>();
         let mut here = past;
         let head = Offset::at(item);
         while !is_spacer(self.block.read_at(past)) {
             if self.block.read_at(past).top.is(head) {
                 here = past;
             }
-            past += size_of::<Entry>();
+            past += size_of::<TableEntry>();
         }
         here
     }
@@ -136,7 +136,7 @@ impl LinkTable {
         ensures { (i : ℕ) → head ≡ i * entry_size →
             result ≡ (entry_at (block_of self.now.problem self.now.covered) i).right * entry_size }
     {
-        self.block.read_at(head).right as usize * size_of::<Entry>()
+        self.block.read_at(head).right as usize * size_of::<TableEntry>()
     }
 }
 
@@ -195,7 +195,7 @@ impl Table for LinkTable {
             len = self.block.read_at(here).top;
         }
         let head = if here == 0 { best } else { here };
-        (head / size_of::<Entry>()) as u32
+        (head / size_of::<TableEntry>()) as u32
     }
 
     fn first_option(&self, item: u32) -> Option<u32> {

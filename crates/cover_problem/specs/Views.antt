@@ -11,12 +11,12 @@ abbrev pub items_of : List (Vec ℕ Global) → List (List ℕ)
 items_of options = map (λ o. o.items) options
 
 -- the bytes of each name
-abbrev pub bytes_of : List (ArrayString most_name_bytes) → List (List ℕ)
-bytes_of names = map (λ n. n.bytes) names
+abbrev pub name_bytes : List (ArrayString most_name_bytes) → List (List ℕ)
+name_bytes names = map (λ n. n.bytes) names
 
 -- the names that a set keeps, in its order
 abbrev pub kept_names : {S : Type 0} → IndexSet (ArrayString most_name_bytes) S → List (List ℕ)
-kept_names names = bytes_of names.keys
+kept_names names = name_bytes names.keys
 
 -- the bytes of each string
 abbrev pub texts_of : List (String Global) → List (List ℕ)
@@ -24,7 +24,7 @@ texts_of strings = map string_bytes strings
 
 -- the problem that the code's names stand for, with these options
 abbrev pub problem_of_parts : List (ArrayString most_name_bytes) → ℕ → List (List ℕ) → ProblemValue
-problem_of_parts names primary options = problem_with (bytes_of names) primary options
+problem_of_parts names primary options = problem_with (name_bytes names) primary options
 
 -- the problem that the code's strings and lists stand for
 abbrev pub problem_of_lists : List (String Global) → ℕ → List (Vec ℕ Global) → ProblemValue

@@ -8,7 +8,7 @@ ghost use Rattle.text_lines.specs.Answers.{Gives, IsFaultOf};
 ghost use Rattle.text_lines.specs.declared.refusal.Refusal.TheVariants as refusals;
 ghost use Rattle.cover_problem.specs.declared.fault.Fault.TheVariants.{NoItemLine};
 ghost use Rattle.cover_problem.specs.Validation.{LacksPrimary};
-ghost use Rattle.cover_problem.specs.Views.{items_of, bytes_of, kept_names, problem_of_parts, problem_of_lists};
+ghost use Rattle.cover_problem.specs.Views.{items_of, name_bytes, kept_names, problem_of_parts, problem_of_lists};
 ghost use Rattle.cover_problem.specs.Checks.{checked_problem};
 ghost use Rattle.cover_problem.specs.Answers.{Returns};
 
@@ -42,7 +42,7 @@ impl Model for Problem {
 
 /// Whether the names are the same, in the same order.
 fn are_same_names(names: &[Name], others: &[Name]) -> bool
-    ensures { result ≡ pointwise bytes_eq (bytes_of names.now) (bytes_of others.now) }
+    ensures { result ≡ pointwise bytes_eq (name_bytes names.now) (name_bytes others.now) }
 {
     names == others
 }
@@ -190,7 +190,7 @@ impl Problem {
 
     /// The names of the items.
     pub(crate) fn name_list(&self) -> &[Name]
-        ensures names { bytes_of result.now ≡ self.now.names }
+        ensures names { name_bytes result.now ≡ self.now.names }
         ensures problem { IsProblem self.now }
     {
         self.names.as_slice()

@@ -4,7 +4,7 @@ ghost use Rattle.std.specs.List.{list_all};
 ghost use Rattle.text_lines.specs.Writing.{text_of};
 ghost use Rattle.cover_problem.specs.Problem.{is_item, is_option};
 ghost use Rattle.cover_problem.specs.Grammar.{maybe_words, option_words, written};
-ghost use Rattle.cover_problem.specs.Views.{bytes_of};
+ghost use Rattle.cover_problem.specs.Views.{name_bytes};
 ghost use Rattle.cover_problem.specs.Answers.{Adds, AddsLine, ReturnsItems};
 
 use crate::lists::Lists;
@@ -15,7 +15,7 @@ use text_lines::write_word;
 
 /// Writes a line of names.
 fn write_names(text: &mut Vec<u8>, key: &[u8], names: &[Name]) -> Result<(), AllocError>
-    ensures { AddsLine result text.old text.new (key.now ∷ bytes_of names.now) }
+    ensures { AddsLine result text.old text.new (key.now ∷ name_bytes names.now) }
 {
     text.extend_from_slice(key)?;
     for name in names {
@@ -27,7 +27,7 @@ fn write_names(text: &mut Vec<u8>, key: &[u8], names: &[Name]) -> Result<(), All
 
 /// Writes the `maybe` line, where there are names for it.
 fn write_maybe(text: &mut Vec<u8>, names: &[Name]) -> Result<(), AllocError>
-    ensures { Adds result text.old text.new (text_of (maybe_words (bytes_of names.now))) }
+    ensures { Adds result text.old text.new (text_of (maybe_words (name_bytes names.now))) }
 {
     // A `maybe` line without names would be refused.
     if names.is_empty() {
@@ -39,7 +39,7 @@ fn write_maybe(text: &mut Vec<u8>, names: &[Name]) -> Result<(), AllocError>
 /// Writes the line of an option over items with these names.
 fn write_option(text: &mut Vec<u8>, names: &[Name], option: &[u32]) -> Result<(), AllocError>
     requires { list_all (is_item (length names.now)) option.now ≡ true }
-    ensures { AddsLine result text.old text.new (option_words (bytes_of names.now) option.now) }
+    ensures { AddsLine result text.old text.new (option_words (name_bytes names.now) option.now) }
 {
     text.extend_from_slice(b"option")?;
     for item in option {
@@ -52,7 +52,7 @@ fn write_option(text: &mut Vec<u8>, names: &[Name], option: &[u32]) -> Result<()
 /// Writes the lines of options over items with these names.
 fn write_options(text: &mut Vec<u8>, names: &[Name], options: &Lists) -> Result<(), AllocError>
     requires { list_all (is_option (length names.now)) options.now ≡ true }
-    ensures { Adds result text.old text.new (text_of (map (option_words (bytes_of names.now)) options.now)) }
+    ensures { Adds result text.old text.new (text_of (map (option_words (name_bytes names.now)) options.now)) }
 {
     for place in 0..options.len() {
         write_option(text, names, options.list(place))?;

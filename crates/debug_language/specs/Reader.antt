@@ -12,7 +12,7 @@ use Rattle.std.specs.List.{slice_split}
 use Rattle.std.specs.Result.{result_ok}
 use Rattle.std.specs.Str.{bytes_eq}
 use Rattle.text_lines.specs.Lines.{without_return, words_of, is_empty}
-use Rattle.text_lines.specs.Numbers.{number_of}
+use Rattle.text_lines.specs.Numbers.{number_within}
 use Rattle.text_lines.specs.declared.refusal.Refusal.{Refusal}
 use Rattle.text_lines.specs.declared.refusal.Refusal.TheVariants as refusals
 use Rattle.cover_problem.specs.Problem.{ProblemValue}
@@ -36,7 +36,7 @@ most_number = 4294967295
 
 -- the number that a word is
 abbrev pub number_in : List ℕ → Option ℕ
-number_in word = number_of most_number word
+number_in word = number_within most_number word
 
 -- the number that is the only word
 abbrev pub number_from : List (List ℕ) → Option ℕ
@@ -67,9 +67,9 @@ abbrev pub is_comma : ℕ → Bool
 is_comma b = b == 44
 
 -- what stands between the commas of a text, if there is one
-abbrev pub parts_of : Option (List ℕ) → List (List ℕ)
-parts_of prelude.None = []
-parts_of (Some text) = slice_split is_comma text
+abbrev pub comma_parts : Option (List ℕ) → List (List ℕ)
+comma_parts prelude.None = []
+comma_parts (Some text) = slice_split is_comma text
 
 -- the numbers between the commas of a word
 abbrev pub joined_numbers : List ℕ → Option (List ℕ)

@@ -4,7 +4,7 @@ use Rattle.std.specs.Prelude.{Result, Ok, Err, IfErr, IsErrAnd}
 use Rattle.std.specs.Str.{bytes_eq}
 use Rattle.std.proofs.lemmas.Bool.{leb-true, ltb-true}
 use Rattle.text_lines.specs.Lines.{is_empty}
-use Rattle.text_lines.specs.Numbers.{number_of}
+use Rattle.text_lines.specs.Numbers.{number_within}
 use Rattle.x_snapshot.specs.Reader.{only, option_number, positive}
 use Rattle.lab_pool.specs.Pool.{IsBadCount}
 use Rattle.debug_language.specs.declared.engine.EngineCommand.TheVariants as engine
@@ -26,7 +26,7 @@ some_positive (Some m) n h = positive_is m n h
 
 only_positive : (o : Option (List ℕ)) (n : ℕ) → option_and_then (option_number most_number) o ≡ Some n → 0 < n
 only_positive None n h = absurd (cc)
-only_positive (Some word) n h = some_positive (number_of most_number word) n h
+only_positive (Some word) n h = some_positive (number_within most_number word) n h
 
 workers_are : (m n : ℕ) → 0 < m → workers m ≡ Some (engine.Pool n) → (0 < n) × (n ≤ 32)
 workers_are m n some = by (nat_le m 32) refl

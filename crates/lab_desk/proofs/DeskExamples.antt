@@ -24,8 +24,6 @@ use Rattle.lab_desk.specs.Record.{SeatValue, noted, note_of, call_entry, notes_o
 use Rattle.lab_desk.specs.Record.{NotesLease, NotesAnyLease, NotesDone, NotesFault, NotesRefused, NotesPost, NotesPostFault, NotesSplit}
 use Rattle.lab_desk.specs.Record.{NotesSplitFault, NotesRetract}
 use Rattle.lab_desk.specs.Seats.{HaveAllNumbers, are_of_workers, AreRecordsFrom, AreRecordsAfter, IsFinishedBy, IsDeskBook, LacksRoom, IsFinishFault}
-use Rattle.lab_desk.specs.Ending.{call_of_end, is_at_mark}
-use Rattle.lab_desk.specs.declared.desk.ends.Ending.TheVariants as ending
 
 -- worker 0's lease of the whole run
 abbrev lease : Grant
@@ -117,17 +115,6 @@ another_fault (inr e) = absurd (cc)
 -- what is true of no book is true of none under a lock
 not_of_a_book : (p : ProblemValue) (b : Branch) (s : StateValue) → ¬ IsDeskBook p b s [] (λ book. ⊥)
 not_of_a_book p b s d = d.5
-
--- ---- specs/Ending.antt
-
-by_its_park : call_of_end ending.Park lease ≡ call.Park lease
-by_its_park = refl
-
-parks_at_its_mark : is_at_mark ending.Park ≡ true
-parks_at_its_mark = refl
-
-closes_at_its_end : is_at_mark ending.Close ≡ false
-closes_at_its_end = refl
 
 -- ---- what a call notes
 

@@ -1,14 +1,16 @@
 -- The examples of faults, kinds of calls, entries and histories, computed.
-use Rattle.std.proofs.Common.{◌≡◌, Some, None, [], ◌∷◌, codes, length, refl}
+use Rattle.std.proofs.Common.{◌≡◌, Some, None, [], ◌∷◌, codes, length, true, false, refl}
 use Rattle.x_steps.specs.StateValue.{start}
 use Rattle.lab_history.specs.declared.fault.BookFault.TheVariants.{StaleLease, OutOfMemory}
 use Rattle.lab_history.specs.declared.entry.Call.TheVariants as call
 use Rattle.lab_history.specs.declared.entry.Reply.TheVariants as reply
 use Rattle.lab_history.specs.declared.entry.Entry.{Entry}
 use Rattle.lab_history.specs.declared.kind.CallKind.TheVariants as kind
+use Rattle.lab_history.specs.declared.ending.Ending.TheVariants as ending
 use Rattle.lab_history.specs.Faults.{number_of, name_of}
 use Rattle.lab_history.specs.Kinds.{kind_of}
 use Rattle.lab_history.specs.EntryCode.{grant_code, grant_of, call_code, call_of, call_rest, reply_code, reply_of, entry_code, entry_of}
+use Rattle.lab_history.specs.Ending.{call_of_end, is_at_mark}
 use Rattle.lab_history.specs.History.{HistoryValue}
 
 -- ---- specs/EntryCode.antt
@@ -29,6 +31,17 @@ read_back = refl
 
 its_kind : kind_of (call.Lease 3) ≡ kind.Lease
 its_kind = refl
+
+-- ---- specs/Ending.antt
+
+by_its_park : call_of_end ending.Park (record { id = 0; worker = 2; index = 7 }) ≡ call.Park (record { id = 0; worker = 2; index = 7 })
+by_its_park = refl
+
+parks_at_its_mark : is_at_mark ending.Park ≡ true
+parks_at_its_mark = refl
+
+closes_at_its_end : is_at_mark ending.Close ≡ false
+closes_at_its_end = refl
 
 -- ---- specs/Faults.antt
 

@@ -81,8 +81,8 @@ fault_code SeatMismatch = 10 ∷ []
 fault_code OutOfMemory = 11 ∷ []
 
 -- the fault of a number, with what comes after that
-abbrev pub fault_with : ℕ → List ℕ → BookFault
-fault_with n ns =
+abbrev pub fault_numbered : ℕ → List ℕ → BookFault
+fault_numbered n ns =
     if n == 1 then UnknownBranch else (if n == 2 then NotWaiting else (if n == 3 then StaleLease (state_of ns) else
     (if n == 4 then ForeignProblem else (if n == 5 then NotAfterMark else (if n == 6 then BeyondEnd else
     (if n == 7 then NotAMark else (if n == 8 then NotAtEnd else (if n == 9 then NothingToRetract else
@@ -90,7 +90,7 @@ fault_with n ns =
 
 -- the fault that a row tells
 unfoldable pub fault_of : List ℕ → BookFault
-fault_of ns = fault_with (slice_index ns 0) (later ns)
+fault_of ns = fault_numbered (slice_index ns 0) (later ns)
 
 -- ---- calls
 

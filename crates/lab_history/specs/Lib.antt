@@ -1,4 +1,5 @@
 pub mod Faults
 pub mod Kinds
 pub mod EntryCode
+pub mod Ending
 pub mod History

@@ -3,6 +3,7 @@
 #![tactic(auto)]
 
 mod code;
+mod ending;
 mod entries;
 mod entry;
 mod fault;
@@ -12,6 +13,7 @@ mod kind;
 mod path;
 mod scribe;
 
+pub use ending::Ending;
 pub use entries::Entries;
 pub use entry::{Call, Entry, Reply};
 pub use fault::BookFault;

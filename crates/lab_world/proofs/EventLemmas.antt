@@ -34,11 +34,12 @@ use Rattle.lab_world.specs.declared.event.Act.TheVariants.{Step, Back, Lease, Le
 use Rattle.lab_world.specs.declared.event.Act.TheVariants.{Close, PutBack, RequestStop}
 use Rattle.lab_world.specs.declared.event.WorldReply.{WorldReply}
 use Rattle.lab_world.specs.declared.event.WorldReply.TheVariants as reply_of
-use Rattle.lab_world.specs.declared.worker.ends.Ending.{Ending}
-use Rattle.lab_world.specs.declared.worker.ends.Ending.TheVariants as ending
+use Rattle.lab_history.specs.declared.ending.Ending.{Ending}
+use Rattle.lab_history.specs.declared.ending.Ending.TheVariants as ending
 use Rattle.lab_world.specs.declared.worker.leases.Wanted.{Wanted}
 use Rattle.lab_world.specs.declared.worker.leases.Wanted.TheVariants as wanted
-use Rattle.lab_world.specs.Worker.{WorkerValue, moved_to, unposted, shortened, split_call, lease_call, end_call}
+use Rattle.lab_history.specs.Ending.{call_of_end}
+use Rattle.lab_world.specs.Worker.{WorkerValue, moved_to, unposted, shortened, split_call, lease_call}
 use Rattle.lab_world.specs.Worker.{lent_worker, after_post, after_split, after_retract, after_end, RetractRefused, WorkerSplitRefused}
 use Rattle.lab_world.specs.declared.event.Act.{Act}
 use Rattle.lab_world.specs.declared.fault.WorkerFault.TheVariants as worker_fault
@@ -238,7 +239,7 @@ module _ (b : BookValue) (w : ℕ) where
     unfolding turn_of
     post_is = at_some Post
 
-    pub end_is : (e : Ending) → turn_of b x w (end_act e) ≡ called b y.grant.worker (end_call e y.grant) (after_end y)
+    pub end_is : (e : Ending) → turn_of b x w (end_act e) ≡ called b y.grant.worker (call_of_end e y.grant) (after_end y)
     unfolding turn_of
     end_is ending.Park = at_some Park
     end_is ending.Abandon = at_some Abandon

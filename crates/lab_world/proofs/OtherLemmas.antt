@@ -13,11 +13,12 @@ use Rattle.lab_book.specs.Tiling.{tile_at, no_tile}
 use Rattle.lab_book.specs.Book.{BookValue, Outcome, outcome, lent, lent_any, first_waiting, posted, split, head_tile, tail_tile, retracted}
 use Rattle.lab_book.specs.Book.{settled, freed, closed, put_back, asked_to_stop, status_fault, lease_fault, stretch_fault, cut_fault}
 use Rattle.lab_book.specs.Book.{retract_fault, end_fault, mark_fault}
-use Rattle.lab_world.specs.declared.worker.ends.Ending.{Ending}
-use Rattle.lab_world.specs.declared.worker.ends.Ending.TheVariants as ending
+use Rattle.lab_history.specs.declared.ending.Ending.{Ending}
+use Rattle.lab_history.specs.declared.ending.Ending.TheVariants as ending
 use Rattle.lab_world.specs.declared.worker.leases.Wanted.{Wanted}
 use Rattle.lab_world.specs.declared.worker.leases.Wanted.TheVariants as wanted
-use Rattle.lab_world.specs.Worker.{WorkerValue, IsWorkers, HasTile, is_wanted, lease_call, end_call}
+use Rattle.lab_history.specs.Ending.{call_of_end}
+use Rattle.lab_world.specs.Worker.{WorkerValue, IsWorkers, HasTile, is_wanted, lease_call}
 use Rattle.lab_world.proofs.HoldLemmas.{kept_set, kept_made, kept_parted, passed, lease_outcome, wanted_not_leased, free_not_leased}
 use Rattle.lab_world.proofs.HoldLemmas.{other_lease}
 
@@ -89,7 +90,7 @@ module _ (b : BookValue) (w : ℕ) (y : WorkerValue) (has : HasTile b.tiles y) w
         kept_made b.tiles y (retracted b) g.id (λ (t : TileValue). lease_fault g t (retract_fault t))
         (λ i l n. where_other i _ _ l n) has
 
-    pub end_leaves : (e : Ending) → HasTile (outcome b w (end_call e g)).tiles y
+    pub end_leaves : (e : Ending) → HasTile (outcome b w (call_of_end e g)).tiles y
     unfolding outcome
     end_leaves ending.Park =
         kept_made b.tiles y (settled b freed) g.id (λ (t : TileValue). lease_fault g t None)

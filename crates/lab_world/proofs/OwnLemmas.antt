@@ -22,10 +22,11 @@ use Rattle.lab_book.specs.Book.{tail_tile, retracted, last_stretch, settled, fre
 use Rattle.lab_book.specs.Book.{retract_fault, end_fault}
 use Rattle.lab_book.proofs.TileLemmas.{mark_push}
 use Rattle.lab_book.proofs.TilingLemmas.{tile_in}
-use Rattle.lab_world.specs.declared.worker.ends.Ending.{Ending}
-use Rattle.lab_world.specs.declared.worker.ends.Ending.TheVariants as ending
+use Rattle.lab_history.specs.declared.ending.Ending.{Ending}
+use Rattle.lab_history.specs.declared.ending.Ending.TheVariants as ending
+use Rattle.lab_history.specs.Ending.{call_of_end}
 use Rattle.lab_world.specs.Worker.{WorkerValue, IsWorkers, HasTile, HoldsTile, lent_worker, cut_along, marked_at, shortened}
-use Rattle.lab_world.specs.Worker.{end_call, after_post, after_split, after_retract, after_end}
+use Rattle.lab_world.specs.Worker.{after_post, after_split, after_retract, after_end}
 use Rattle.lab_world.proofs.HoldLemmas.{found_at, own_lease, passed, kept_parted}
 
 -- ---- a tile is leased
@@ -194,8 +195,8 @@ module _ (b : BookValue) (x : WorkerValue) (tiling : IsTiling b.problem b.branch
       (λ f. refl)
 
   -- a lease that is ended
-  pub end_has : (w : ℕ) (e : Ending) → Has b.problem x.grant (outcome b w (end_call e x.grant)).tiles
-      (after_end x (outcome b w (end_call e x.grant)).reply)
+  pub end_has : (w : ℕ) (e : Ending) → Has b.problem x.grant (outcome b w (call_of_end e x.grant)).tiles
+      (after_end x (outcome b w (call_of_end e x.grant)).reply)
   unfolding outcome
   end_has w ending.Park =
       by_own (after_end x) (settled b freed) (outcome b w (call.Park x.grant)) None

@@ -27,12 +27,12 @@ use Rattle.lab_world.specs.declared.event.Act.{Act}
 use Rattle.lab_world.specs.declared.event.Act.TheVariants.{Step, Back, Lease, LeaseAny, TakeHeld, Post, Split, Retract, Park, Abandon}
 use Rattle.lab_world.specs.declared.event.Act.TheVariants.{Close, PutBack, RequestStop}
 use Rattle.lab_world.specs.declared.event.WorldEvent.{WorldEvent}
-use Rattle.lab_world.specs.declared.worker.ends.Ending.{Ending}
-use Rattle.lab_world.specs.declared.worker.ends.Ending.TheVariants as ending
+use Rattle.lab_history.specs.declared.ending.Ending.{Ending}
+use Rattle.lab_history.specs.declared.ending.Ending.TheVariants as ending
 use Rattle.lab_world.specs.declared.worker.leases.Wanted.{Wanted}
 use Rattle.lab_world.specs.declared.worker.leases.Wanted.TheVariants as wanted
+use Rattle.lab_history.specs.Ending.{call_of_end}
 use Rattle.lab_world.specs.Worker.{leased_by, WorkerValue, HasTile, moved_to, unposted, split_call, is_wanted, lease_call}
-use Rattle.lab_world.specs.Worker.{end_call}
 use Rattle.lab_world.specs.Worker.{after_end, lent_worker}
 use Rattle.lab_world.specs.World.{WorldValue, Turn, turn_of, stepped, stepped_back, splitting, retracting, IsSeat, IsWorld, worker_at}
 use Rattle.lab_world.specs.World.{world_step}
@@ -130,8 +130,8 @@ module _ (b : BookValue) (w : ℕ) (tiling : IsTiling b.problem b.branch b.first
       (own_seat x x.grant.worker (split_call x path) _ k.0 (split_has b x tiling k.1 x.grant.worker path)) k
 
   end_keeps : (x : WorkerValue) (e : Ending) → IsSeat b w (Some x)
-      → IsSeat (book_step b x.grant.worker (end_call e x.grant)) w (after_end x (outcome b x.grant.worker (end_call e x.grant)).reply)
-  end_keeps x e k = own_seat x x.grant.worker (end_call e x.grant) _ k.0 (end_has b x tiling k.1 x.grant.worker e)
+      → IsSeat (book_step b x.grant.worker (call_of_end e x.grant)) w (after_end x (outcome b x.grant.worker (call_of_end e x.grant)).reply)
+  end_keeps x e k = own_seat x x.grant.worker (call_of_end e x.grant) _ k.0 (end_has b x tiling k.1 x.grant.worker e)
 
   -- a call that leaves its tile
   same_seat : (x : WorkerValue) (c : Call) → HasTile (outcome b w c).tiles x → IsSeat b w (Some x) → IsSeat (book_step b w c) w (Some x)
@@ -182,8 +182,8 @@ module _ (b : BookValue) (w v : ℕ) (y : WorkerValue) (other : v ≡ w → ⊥)
   not_own : (x : WorkerValue) → x.grant.worker ≡ w → y.grant.worker ≡ x.grant.worker → ⊥
   not_own x e h = other (sym k.0 ∙ h ∙ e)
 
-  end_left : (x : WorkerValue) (e : Ending) → IsSeat b w (Some x) → IsSeat (book_step b x.grant.worker (end_call e x.grant)) v (Some y)
-  end_left x e h = left x.grant.worker (end_call e x.grant) (end_leaves b x.grant.worker y k.1.tile x.grant (not_own x h.0) e)
+  end_left : (x : WorkerValue) (e : Ending) → IsSeat b w (Some x) → IsSeat (book_step b x.grant.worker (call_of_end e x.grant)) v (Some y)
+  end_left x e h = left x.grant.worker (call_of_end e x.grant) (end_leaves b x.grant.worker y k.1.tile x.grant (not_own x h.0) e)
 
   leaves : (x : Option WorkerValue) (a : Act) → IsSeat b w x → Leaves (turn_of b x w a)
   unfolding turn_of

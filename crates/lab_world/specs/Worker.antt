@@ -33,8 +33,6 @@ use Rattle.x_steps.specs.Before.{prev}
 use Rattle.x_steps.specs.Run.{after}
 use Rattle.x_steps.specs.Walk.{last_event, OnlyMoves}
 use Rattle.x_branches.specs.declared.fault.RunnerFault.TheVariants.{NotAtMark}
-use Rattle.lab_world.specs.declared.worker.ends.Ending.{Ending}
-use Rattle.lab_world.specs.declared.worker.ends.Ending.TheVariants.{Park, Abandon, Close}
 use Rattle.lab_world.specs.declared.worker.leases.Wanted.{Wanted}
 use Rattle.lab_world.specs.declared.worker.leases.Wanted.TheVariants as wanted
 use Rattle.lab_world.specs.declared.fault.WorkerFault.{WorkerFault}
@@ -126,12 +124,6 @@ pub record StandsAtFirst (b : BookValue) (r : RunnerValue) : Type 0 where
 -- a problem's cut, by its choices
 abbrev pub cut_along : ProblemValue → Option (List ℕ) → Option CutPath
 cut_along p path = option_map (λ (q : List ℕ). record { problem = p; path = q }) path
-
--- the call by which a lease is ended
-abbrev pub end_call : Ending → Grant → Call
-end_call Park g = call.Park g
-end_call Abandon g = call.Abandon g
-end_call Close g = call.Close g
 
 -- the worker that is leased a tile, by the book's answer
 abbrev pub lent_worker : ProblemValue → Reply → Option WorkerValue

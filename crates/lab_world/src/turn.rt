@@ -8,9 +8,10 @@ ghost use Rattle.lab_world.specs.World.{Turned, IsSeat, IsInHistory, turn_of, le
 
 use crate::event::{Act, Target, WorldReply};
 use crate::fault::WorkerFault;
-use crate::worker::{Ending, Wanted, Worker};
+use crate::worker::{Wanted, Worker};
 use cover_problem::Table;
 use lab_book::{Book, BookFault};
+use lab_history::Ending;
 use std::alloc::{AllocError, Global};
 use x_branches::RunnerFault;
 use x_steps::{Event, Refused};

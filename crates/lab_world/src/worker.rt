@@ -15,7 +15,6 @@ mod posts;
 mod splits;
 
 use cover_problem::Table;
-pub(crate) use ends::Ending;
 use lab_book::{Grant, Lease};
 pub(crate) use leases::Wanted;
 use std::marker::Model;

@@ -3,21 +3,21 @@ use Rattle.std.proofs.Common.{◌≡◌, ℕ, zero, suc, ◌+◌, ◌-◌, ◌<�
 use Rattle.std.proofs.lemmas.Bool.Decides.{nat_tests}
 use Rattle.std.proofs.lemmas.List.{append-nil, drop-append-le, take-append-le, length-drop, take_all, take-append-drop, drop-drop}
 use Rattle.std.proofs.Math.Seq.{take-add, drop-append_seam}
-use Rattle.packed_rows.specs.Pieces.{row_bytes, ArePlaces, draft_bytes, HaveCommon, IsFound, place_of}
+use Rattle.packed_rows.specs.Pieces.{row_bytes, AreSpans, draft_bytes, HaveCommon, IsFound, span_of}
 
 -- ---- places
 
-pub places_more : (n m : ℕ) (ps : List ℕ) → n ≤ m → ArePlaces n ps → ArePlaces m ps
+pub places_more : (n m : ℕ) (ps : List ℕ) → n ≤ m → AreSpans n ps → AreSpans m ps
 places_more n m [] l a = a
 places_more n m (s ∷ []) l a = a
 places_more n m (s ∷ k ∷ ps) l a = let p = a.1 in (a.0, omega arith, places_more n m ps l a.2)
 
-pub places_append : (n : ℕ) (ps qs : List ℕ) → ArePlaces n ps → ArePlaces n qs → ArePlaces n (ps ++ qs)
+pub places_append : (n : ℕ) (ps qs : List ℕ) → AreSpans n ps → AreSpans n qs → AreSpans n (ps ++ qs)
 places_append n [] qs a b = b
 places_append n (s ∷ []) qs a b = absurd a
 places_append n (s ∷ k ∷ ps) qs a b = (a.0, a.1, places_append n ps qs a.2 b)
 
-pub bytes_append : (n : ℕ) (block ps qs : List ℕ) → ArePlaces n ps → row_bytes block (ps ++ qs) ≡ row_bytes block ps ++ row_bytes block qs
+pub bytes_append : (n : ℕ) (block ps qs : List ℕ) → AreSpans n ps → row_bytes block (ps ++ qs) ≡ row_bytes block ps ++ row_bytes block qs
 bytes_append n block [] qs a = refl
 bytes_append n block (s ∷ []) qs a = absurd a
 bytes_append n block (s ∷ k ∷ ps) qs a =
@@ -30,26 +30,26 @@ take_within block more s k l =
     let n = length-drop s block in
     ap (take k) (drop-append-le s block more (omega arith)) ∙ take-append-le k (drop s block) more (omega arith)
 
-pub bytes_grow : (block more ps : List ℕ) → ArePlaces (length block) ps → row_bytes (block ++ more) ps ≡ row_bytes block ps
+pub bytes_grow : (block more ps : List ℕ) → AreSpans (length block) ps → row_bytes (block ++ more) ps ≡ row_bytes block ps
 bytes_grow block more [] a = refl
 bytes_grow block more (s ∷ []) a = refl
 bytes_grow block more (s ∷ k ∷ ps) a = (λ j. take_within block more s k a.1 j ++ bytes_grow block more ps a.2 j)
 
-place_is : (s k : ℕ) → 0 < k → place_of s k ≡ s ∷ k ∷ []
+place_is : (s k : ℕ) → 0 < k → span_of s k ≡ s ∷ k ∷ []
 place_is s k h = grind (arith, nat_tests)
 
-pub place_placed : (n s k : ℕ) → s + k ≤ n → ArePlaces n (place_of s k)
+pub place_placed : (n s k : ℕ) → s + k ≤ n → AreSpans n (span_of s k)
 place_placed n s zero l = tt
-place_placed n s (suc k) l = subst (ArePlaces n) (sym (place_is s (suc k) (omega arith))) (omega arith, l, tt)
+place_placed n s (suc k) l = subst (AreSpans n) (sym (place_is s (suc k) (omega arith))) (omega arith, l, tt)
 
-pub place_bytes : (block : List ℕ) (s k : ℕ) → row_bytes block (place_of s k) ≡ take k (drop s block)
+pub place_bytes : (block : List ℕ) (s k : ℕ) → row_bytes block (span_of s k) ≡ take k (drop s block)
 place_bytes block s zero = refl
 place_bytes block s (suc k) = ap (row_bytes block) (place_is s (suc k) (omega arith)) ∙ append-nil (take (suc k) (drop s block))
 
 -- ---- a part more of a row's bytes
 
 -- as it is, behind what the block has
-pub draft_more : (block places part new : List ℕ) (from : ℕ) → from ≤ length block → ArePlaces (length block) places → new ≡ block ++ part
+pub draft_more : (block places part new : List ℕ) (from : ℕ) → from ≤ length block → AreSpans (length block) places → new ≡ block ++ part
     → draft_bytes new places from ≡ draft_bytes block places from ++ part
 draft_more block places part new from l a e =
     ap (λ b. draft_bytes b places from) e
@@ -57,27 +57,27 @@ draft_more block places part new from l a e =
     ∙ sym (append_assoc (row_bytes block places) (drop from block) part)
 
 -- what is not a piece yet becomes one
-pub draft_closed : (block places new : List ℕ) (from : ℕ) → from ≤ length block → ArePlaces (length block) places
-    → new ≡ places ++ place_of from (length block - from) → (ArePlaces (length block) new) × (row_bytes block new ≡ draft_bytes block places from)
+pub draft_closed : (block places new : List ℕ) (from : ℕ) → from ≤ length block → AreSpans (length block) places
+    → new ≡ places ++ span_of from (length block - from) → (AreSpans (length block) new) × (row_bytes block new ≡ draft_bytes block places from)
 draft_closed block places new from l a e =
     let n = length-drop from block in
     let whole : take (length block - from) (drop from block) ≡ drop from block = take_all (length block - from) (drop from block) (omega arith) in (
-      subst (ArePlaces (length block)) (sym e) (places_append (length block) places (place_of from (length block - from)) a (place_placed (length block) from (length block - from) (omega arith))),
-      ap (row_bytes block) e ∙ bytes_append (length block) block places (place_of from (length block - from)) a
+      subst (AreSpans (length block)) (sym e) (places_append (length block) places (span_of from (length block - from)) a (place_placed (length block) from (length block - from) (omega arith))),
+      ap (row_bytes block) e ∙ bytes_append (length block) block places (span_of from (length block - from)) a
           ∙ ap (λ xs. row_bytes block places ++ xs) (place_bytes block from (length block - from) ∙ whole),
     )
 
 -- by the place where its first bytes stand, and then the rest as it is
-pub draft_shared : (block places part mid next new : List ℕ) (from start size : ℕ) → from ≤ length block → ArePlaces (length block) places
-    → IsFound block part start size → mid ≡ places ++ place_of from (length block - from) → next ≡ mid ++ place_of start size
+pub draft_shared : (block places part mid next new : List ℕ) (from start size : ℕ) → from ≤ length block → AreSpans (length block) places
+    → IsFound block part start size → mid ≡ places ++ span_of from (length block - from) → next ≡ mid ++ span_of start size
     → new ≡ block ++ drop size part
-    → (ArePlaces (length block) next) × (draft_bytes new next (length block) ≡ draft_bytes block places from ++ part)
+    → (AreSpans (length block) next) × (draft_bytes new next (length block) ≡ draft_bytes block places from ++ part)
 draft_shared block places part mid next new from start size l a f e g h =
     let closed = draft_closed block places mid from l a e in let w = f.within in
-    let placed : ArePlaces (length block) next =
-    subst (ArePlaces (length block)) (sym g) (places_append (length block) mid (place_of start size) closed.0 (place_placed (length block) start size w)) in
+    let placed : AreSpans (length block) next =
+    subst (AreSpans (length block)) (sym g) (places_append (length block) mid (span_of start size) closed.0 (place_placed (length block) start size w)) in
     let bytes : row_bytes block next ≡ draft_bytes block places from ++ take size part =
-    ap (row_bytes block) g ∙ bytes_append (length block) block mid (place_of start size) closed.0
+    ap (row_bytes block) g ∙ bytes_append (length block) block mid (span_of start size) closed.0
     ∙ (λ j. closed.1 j ++ (place_bytes block start size ∙ sym f.same) j) in (
       placed,
       ap (λ b. draft_bytes b next (length block)) h

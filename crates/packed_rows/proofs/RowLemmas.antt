@@ -6,7 +6,7 @@ use Rattle.std.proofs.lemmas.List.Elements.{All-push, All-pop}
 use Rattle.std.proofs.lemmas.Grind.{flat_map-append}
 use Rattle.std.specs.List.{flat_map}
 use Rattle.packed_rows.specs.Numbers.{bytes_of, numbers_of, IsWhole, IsSpelled, IsRow}
-use Rattle.packed_rows.specs.Pieces.{row_bytes, ArePlaces, Grows, place_of}
+use Rattle.packed_rows.specs.Pieces.{row_bytes, AreSpans, Grows, span_of}
 use Rattle.cover_problem.specs.FlatLists.{lists_at, start_at, IsParted}
 use Rattle.packed_rows.specs.Rows.{rows_bytes, rows_at, KeepsPieces}
 use Rattle.packed_rows.proofs.NumberLemmas.{reads_number, none, whole_put}
@@ -35,7 +35,7 @@ spelled_all bs ns w s a =
 -- ---- one row more
 
 -- the rows that are there keep their bytes
-same_bytes : (block more : List ℕ) (lists : List (List ℕ)) → All (ArePlaces (length block)) lists → map (row_bytes (block ++ more)) lists ≡ map (row_bytes block) lists
+same_bytes : (block more : List ℕ) (lists : List (List ℕ)) → All (AreSpans (length block)) lists → map (row_bytes (block ++ more)) lists ≡ map (row_bytes block) lists
 same_bytes block more [] a = refl
 same_bytes block more (l ∷ ls) a =
     (λ j. bytes_grow block more l (a 0 [] (omega arith)) j ∷ same_bytes block more ls (λ k d h. a (suc k) d (omega arith)) j)
@@ -46,7 +46,7 @@ pub record IsAdded (block places ends row : List ℕ) (before : List (List ℕ))
   pub rows : rows_at block places ends ≡ before ++ row ∷ []
 
 pub one_more : (block places ends next new_block new_places new_ends bytes : List ℕ) → KeepsPieces block places ends → Grows block new_block
-    → new_places ≡ places ++ next → new_ends ≡ ends ++ length new_places ∷ [] → ArePlaces (length new_block) next
+    → new_places ≡ places ++ next → new_ends ≡ ends ++ length new_places ∷ [] → AreSpans (length new_block) next
     → row_bytes new_block next ≡ bytes → IsSpelled bytes
     → IsAdded new_block new_places new_ends (numbers_of bytes) (rows_at block places ends)
 one_more block places ends next new_block new_places new_ends bytes k g p e a b s =
@@ -62,8 +62,8 @@ one_more block places ends next new_block new_places new_ends bytes k g p e a b 
     record {
       keeps = record {
         parted = subst (λ (w : List ℕ × List ℕ). IsParted w.0 0 w.1) (λ j. (sym p j, sym there j)) (push_parted places next 0 ends k.parted);
-        placed = subst (All (ArePlaces (length new_block))) (sym lists)
-            (All-push (ArePlaces (length new_block)) (lists_at places 0 ends) next
+        placed = subst (All (AreSpans (length new_block))) (sym lists)
+            (All-push (AreSpans (length new_block)) (lists_at places 0 ends) next
             (λ i d l. places_more (length block) (length new_block) (get_or (lists_at places 0 ends) i d) longer (k.placed i d l)) a);
         spelled = subst (All IsSpelled) (sym all) (All-push IsSpelled (rows_bytes block places ends) bytes k.spelled s);
       };
@@ -73,7 +73,7 @@ one_more block places ends next new_block new_places new_ends bytes k g p e a b 
 -- the same of vectors to which room was added
 pub one_pushed : (block places ends roomy_block roomy_places roomy_ends draft lent new_block new_places new_ends bytes : List ℕ) → KeepsPieces block places ends
     → roomy_block ≡ block → roomy_places ≡ places → roomy_ends ≡ ends → Grows roomy_block new_block → lent ≡ draft → new_places ≡ roomy_places ++ lent
-    → new_ends ≡ roomy_ends ++ length new_places ∷ [] → ArePlaces (length new_block) draft → row_bytes new_block draft ≡ bytes → IsSpelled bytes
+    → new_ends ≡ roomy_ends ++ length new_places ∷ [] → AreSpans (length new_block) draft → row_bytes new_block draft ≡ bytes → IsSpelled bytes
     → IsAdded new_block new_places new_ends (numbers_of bytes) (rows_at block places ends)
 one_pushed block places ends roomy_block roomy_places roomy_ends draft lent new_block new_places new_ends bytes k rb rp re g d p e a b s =
     one_more block places ends draft new_block new_places new_ends bytes k (subst (λ xs. Grows xs new_block) rb g) (p ∙ (λ j. rp j ++ d j))
@@ -81,7 +81,7 @@ one_pushed block places ends roomy_block roomy_places roomy_ends draft lent new_
 
 -- a row in one piece
 pub one_piece : (block bytes new : List ℕ) → new ≡ block ++ bytes
-    → (ArePlaces (length new) (place_of (length block) (length bytes))) × (row_bytes new (place_of (length block) (length bytes)) ≡ bytes)
+    → (AreSpans (length new) (span_of (length block) (length bytes))) × (row_bytes new (span_of (length block) (length bytes)) ≡ bytes)
 one_piece block bytes new e =
     let n = length-append block bytes in let m = ap length e in (
       place_placed (length new) (length block) (length bytes) (omega arith),
@@ -101,7 +101,7 @@ one_piece block bytes new e =
 pub record IsHere (block places ends : List ℕ) (k : ℕ) : Type 0 where
   pub end : k < length ends
   pub list : IsList places 0 ends k
-  pub placed : ArePlaces (length block) (get_or (lists_at places 0 ends) k [])
+  pub placed : AreSpans (length block) (get_or (lists_at places 0 ends) k [])
   pub spelled : IsSpelled (row_bytes block (get_or (lists_at places 0 ends) k []))
   pub row : get_or (rows_at block places ends) k [] ≡ numbers_of (row_bytes block (get_or (lists_at places 0 ends) k []))
 
@@ -129,13 +129,13 @@ row_here block places ends rows k p e l =
 
 -- one row more, in one piece
 pub one_piece_more : (block places ends row more new_block new_places new_ends : List ℕ) → KeepsPieces block places ends → IsRow row → All (λ n. n < 2 ^ 64) more
-    → new_block ≡ block ++ (row ++ flat_map bytes_of more) → new_places ≡ places ++ place_of (length block) (length (row ++ flat_map bytes_of more))
+    → new_block ≡ block ++ (row ++ flat_map bytes_of more) → new_places ≡ places ++ span_of (length block) (length (row ++ flat_map bytes_of more))
     → new_ends ≡ ends ++ length new_places ∷ [] → IsAdded new_block new_places new_ends (numbers_of row ++ more) (rows_at block places ends)
 one_piece_more block places ends row more new_block new_places new_ends k r a b p e =
     let bytes = row ++ flat_map bytes_of more in
     let piece = one_piece block bytes new_block b in
     subst (λ ns. IsAdded new_block new_places new_ends ns (rows_at block places ends)) (reads_all row more r.whole a)
-    (one_more block places ends (place_of (length block) (length bytes)) new_block new_places new_ends bytes k (bytes, b) p e piece.0 piece.1
+    (one_more block places ends (span_of (length block) (length bytes)) new_block new_places new_ends bytes k (bytes, b) p e piece.0 piece.1
     (spelled_all row more r.whole r.spelled a))
 
 -- many numbers more in a row
@@ -165,7 +165,7 @@ one_less block places ends e k p n h =
     record {
       keeps = record {
         parted = r.parted;
-        placed = (All-pop (ArePlaces (length block)) (lists_at places 0 ends) (lists_at (take e places) 0 (take k ends)) (Some r.last) r.lists p.placed).0;
+        placed = (All-pop (AreSpans (length block)) (lists_at places 0 ends) (lists_at (take e places) 0 (take k ends)) (Some r.last) r.lists p.placed).0;
         spelled = (All-pop IsSpelled (rows_bytes block places ends) (rows_bytes block (take e places) (take k ends)) (Some (row_bytes block r.last)) all p.spelled).0;
       };
       rows = sym (ap (take k) rows ∙ ap (λ n. take n (rows_at block (take e places) (take k ends) ++ numbers_of (row_bytes block r.last) ∷ [])) (sym long)

@@ -10,10 +10,10 @@ row_bytes block (start ∷ []) = []
 row_bytes block (start ∷ size ∷ places) = take size (drop start block) ++ row_bytes block places
 
 -- each piece has a byte at least, and stands in a block of so many
-abbrev pub ArePlaces : ℕ → List ℕ → Type 0
-ArePlaces most [] = ⊤
-ArePlaces most (start ∷ []) = ⊥
-ArePlaces most (start ∷ size ∷ places) = (0 < size) × (start + size ≤ most) × ArePlaces most places
+abbrev pub AreSpans : ℕ → List ℕ → Type 0
+AreSpans most [] = ⊤
+AreSpans most (start ∷ []) = ⊥
+AreSpans most (start ∷ size ∷ places) = (0 < size) × (start + size ≤ most) × AreSpans most places
 
 -- the bytes of a row to which pieces are still added: those of its pieces, and the block's from one on
 abbrev pub draft_bytes : List ℕ → List ℕ → ℕ → List ℕ
@@ -36,5 +36,5 @@ pub record IsFound (block list : List ℕ) (start size : ℕ) : Type 0 where
   pub within : start + size ≤ length block
 
 -- the two numbers of a piece, if it has a byte
-abbrev pub place_of : ℕ → ℕ → List ℕ
-place_of start size = if size == 0 then [] else start ∷ size ∷ []
+abbrev pub span_of : ℕ → ℕ → List ℕ
+span_of start size = if size == 0 then [] else start ∷ size ∷ []

@@ -3,7 +3,7 @@ use Rattle.std.specs.Prelude.{ℕ, ◌+◌, ◌-◌, ◌*◌, ◌≤◌, List, t
 use Rattle.std.specs.List.{All}
 use Rattle.cover_problem.specs.FlatLists.{lists_at, IsParted}
 use Rattle.packed_rows.specs.Numbers.{numbers_of, IsSpelled}
-use Rattle.packed_rows.specs.Pieces.{row_bytes, ArePlaces}
+use Rattle.packed_rows.specs.Pieces.{row_bytes, AreSpans}
 
 -- rows; for how many rows of up to eight numbers room is kept; and for how many numbers of one row more
 pub record RowsValue : Type 0 where
@@ -22,7 +22,7 @@ rows_at block places ends = map numbers_of (rows_bytes block places ends)
 -- the ends part the places, each row's places stand in the block, and its bytes are those of its numbers
 pub record KeepsPieces (block places ends : List ℕ) : Type 0 where
   pub parted : IsParted places 0 ends
-  pub placed : All (ArePlaces (length block)) (lists_at places 0 ends)
+  pub placed : All (AreSpans (length block)) (lists_at places 0 ends)
   pub spelled : All IsSpelled (rows_bytes block places ends)
 
 -- there is room for so many short rows and so many numbers of one row more: a block's bytes, two places for each row, and its end

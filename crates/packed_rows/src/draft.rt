@@ -1,6 +1,6 @@
 //! The bytes of a row are added to a block: what stands there already is told by its place.
 ghost use Rattle.std.specs.Prelude.{◌≡◌, ◌++◌, [], ◌<◌, ◌≤◌, ◌+◌, ◌*◌, IsTrue, length, take, vec_len, vec_capacity};
-ghost use Rattle.packed_rows.specs.Pieces.{row_bytes, ArePlaces, draft_bytes, Grows, HaveCommon, IsFound, place_of};
+ghost use Rattle.packed_rows.specs.Pieces.{row_bytes, AreSpans, draft_bytes, Grows, HaveCommon, IsFound, span_of};
 
 use std::simd::Simd;
 
@@ -143,7 +143,7 @@ pub(crate) fn put_bytes(block: &mut Vec<u8>, bytes: &[u8])
 /// Adds a piece's place, if it has a byte.
 pub(crate) fn put_place(places: &mut Vec<usize>, start: usize, size: usize)
     requires { vec_len places.old + 2 ≤ vec_capacity places.old }
-    ensures added { places.new.items ≡ places.old.items ++ place_of start size }
+    ensures added { places.new.items ≡ places.old.items ++ span_of start size }
     ensures long { vec_len places.new ≤ vec_len places.old + 2 }
     ensures capacity { vec_capacity places.new ≡ vec_capacity places.old }
 {
@@ -163,13 +163,13 @@ fn put_part(
     part: &[u8],
 ) -> usize
     requires from { from ≤ length block.old.items }
-    requires placed { ArePlaces (length block.old.items) places.old.items }
+    requires placed { AreSpans (length block.old.items) places.old.items }
     requires room { vec_len block.old + length part.now ≤ vec_capacity block.old }
     requires places_room { vec_len places.old + 4 ≤ vec_capacity places.old }
     ensures bytes { draft_bytes block.new.items places.new.items result ≡
         draft_bytes block.old.items places.old.items from ++ part.now }
     ensures from { result ≤ length block.new.items }
-    ensures placed { ArePlaces (length block.new.items) places.new.items }
+    ensures placed { AreSpans (length block.new.items) places.new.items }
     ensures grows { Grows block.old.items block.new.items }
     ensures long { vec_len block.new ≤ vec_len block.old + length part.now }
     ensures few { vec_len places.new ≤ vec_len places.old + 4 }
@@ -203,7 +203,7 @@ pub(crate) fn put_row(
     requires room { vec_len block.old + length row.now ≤ vec_capacity block.old }
     requires places_room { 4 * length marks.now + 6 ≤ vec_capacity places.old }
     ensures bytes { row_bytes block.new.items places.new.items ≡ row.now }
-    ensures placed { ArePlaces (length block.new.items) places.new.items }
+    ensures placed { AreSpans (length block.new.items) places.new.items }
     ensures grows { Grows block.old.items block.new.items }
     ensures long { vec_len block.new ≤ vec_len block.old + length row.now }
     ensures few { vec_len places.new ≤ 4 * length marks.now + 6 }

@@ -1,6 +1,6 @@
 //! Bytes that stand in pieces of one block.
 ghost use Rattle.std.specs.Prelude.{◌≡◌, ◌↔◌, ◌++◌, ◌∷◌, [], ◌<◌, ◌≤◌, ◌+◌, ℕ, List, length, take, drop, MatchOption, IsTrue, true, false};
-ghost use Rattle.packed_rows.specs.Pieces.{row_bytes, ArePlaces};
+ghost use Rattle.packed_rows.specs.Pieces.{row_bytes, AreSpans};
 
 use std::marker::Model;
 
@@ -14,13 +14,13 @@ pub(crate) struct Rope<'a> {
 
 impl<'a> Model for Rope<'a> {
     ghost use Rattle.std.specs.Prelude.{◌++◌, ℕ, List, length};
-    ghost use Rattle.packed_rows.specs.Pieces.{row_bytes, ArePlaces};
+    ghost use Rattle.packed_rows.specs.Pieces.{row_bytes, AreSpans};
 
     ghost Value = { List ℕ };
 
     ghost view = { λ r. r.here.now ++ row_bytes r.block.now r.places.now };
 
-    ghost invariant = { λ r. ArePlaces (length r.block.now) r.places.now };
+    ghost invariant = { λ r. AreSpans (length r.block.now) r.places.now };
 }
 
 /// So many bytes of a block, from a place on.
@@ -35,9 +35,9 @@ fn piece(block: &[u8], start: usize, size: usize) -> &[u8]
 
 /// The bytes at hand and the places behind them: where none is at hand, those of the next piece.
 fn lead<'a>(here: &'a [u8], block: &'a [u8], places: &'a [usize]) -> (&'a [u8], &'a [usize])
-    requires { ArePlaces (length block.now) places.now }
+    requires { AreSpans (length block.now) places.now }
     ensures same { result.0.now ++ row_bytes block.now result.1.now ≡ here.now ++ row_bytes block.now places.now }
-    ensures places { ArePlaces (length block.now) result.1.now }
+    ensures places { AreSpans (length block.now) result.1.now }
     ensures end { length result.0.now ≡ 0 → here.now ++ row_bytes block.now places.now ≡ [] }
 {
     if !here.is_empty() || places.is_empty() {
@@ -61,7 +61,7 @@ impl<'a> Rope<'a> {
 
     /// Of a block's pieces at these places.
     pub fn placed(block: &'a [u8], places: &'a [usize]) -> Rope<'a>
-        requires { ArePlaces (length block.now) places.now }
+        requires { AreSpans (length block.now) places.now }
         ensures { result ≡ row_bytes block.now places.now }
     {
         Rope {

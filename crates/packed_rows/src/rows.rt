@@ -4,7 +4,7 @@ ghost use Rattle.std.specs.Prelude.{OnOk, OnErr, slice_index_or};
 ghost use Rattle.std.specs.List.{flat_map};
 ghost use Rattle.cover_problem.specs.Answers.{Returns};
 ghost use Rattle.packed_rows.specs.Numbers.{bytes_of, most_bytes};
-ghost use Rattle.packed_rows.specs.Pieces.{place_of};
+ghost use Rattle.packed_rows.specs.Pieces.{span_of};
 ghost use Rattle.cover_problem.specs.FlatLists.{start_at};
 ghost use Rattle.packed_rows.specs.Rows.{added, keeping, without_last};
 
@@ -89,7 +89,7 @@ fn add_piece(
     requires end_room { vec_len ends.old < vec_capacity ends.old }
     ensures added { block.new.items ≡ block.old.items ++ (row.now ++ flat_map bytes_of more.now) }
     ensures place { places.new.items ≡ places.old.items ++
-        place_of (length block.old.items) (length (row.now ++ flat_map bytes_of more.now)) }
+        span_of (length block.old.items) (length (row.now ++ flat_map bytes_of more.now)) }
     ensures ends { ends.new.items ≡ ends.old.items ++ length places.new.items ∷ [] }
     ensures long { vec_len block.new ≤ vec_len block.old + most_bytes row.now more.now }
     ensures few { vec_len places.new ≤ vec_len places.old + 2 }

@@ -4,7 +4,7 @@ use Rattle.std.proofs.lemmas.Int.{ints}
 use Rattle.std.proofs.lemmas.Bool.{and_parts, or_cases, eqb-false, not-true}
 use Rattle.poly_cells.specs.Points.{Point, point_at}
 use Rattle.poly_cells.specs.Symmetries.{pick, Matrix, IsSignedPermutation, matrix, signed, sent, row_times}
-use Rattle.poly_cells.specs.Products.{number_of}
+use Rattle.poly_cells.specs.Products.{matrix_number}
 use Rattle.poly_cells.specs.Laws.{AreMatrices}
 use Rattle.poly_cells.proofs.Tables.{all_below, all_at}
 use Rattle.poly_cells.proofs.MatrixLemmas.{same_point}
@@ -44,7 +44,7 @@ each n ln = signed_permutation (matrix n) (all_at 48 (λ n. is_permutation (matr
 -- ---- each signed permutation has a number
 
 abbrev numbered : ℕ → ℕ → ℕ → Bool → Bool → Bool → Bool
-numbered a b c d e f = nat_lt (number_of (of_parts a b c d e f)) 48 && same_matrix (matrix (number_of (of_parts a b c d e f))) (of_parts a b c d e f)
+numbered a b c d e f = nat_lt (matrix_number (of_parts a b c d e f)) 48 && same_matrix (matrix (matrix_number (of_parts a b c d e f))) (of_parts a b c d e f)
 
 abbrev both : (Bool → Bool) → Bool
 both p = p true && p false
@@ -90,7 +90,7 @@ has_number m s =
 every : (m : Matrix) → IsSignedPermutation m → (n : ℕ) × (n < 48) × (matrix n ≡ m)
 every m s =
     let both = and_parts _ _ (has_number m s) in
-    (number_of m, ltb-true _ _ both.0, same_matrices _ _ both.1)
+    (matrix_number m, ltb-true _ _ both.0, same_matrices _ _ both.1)
 
 -- ---- the entries act
 

@@ -4,7 +4,7 @@ use Rattle.std.proofs.lemmas.Bool.{and_parts, not_from_true}
 use mathlib.Core.Bool.{beq}
 use Rattle.poly_cells.specs.Points.{Point, point_at}
 use Rattle.poly_cells.specs.Symmetries.{Matrix, matrix, sent, sent_by, IsComposed, is_rotation, rotations, permutation}
-use Rattle.poly_cells.specs.Products.{product, composed, inverse_of, number_of, is_odd}
+use Rattle.poly_cells.specs.Products.{product, composed, inverse_of, matrix_number, is_odd}
 use Rattle.poly_cells.proofs.Tables.{all_below, all_at, pairs}
 use Rattle.poly_cells.proofs.MatrixLemmas.{sent_product}
 
@@ -91,7 +91,7 @@ abbrev pub probe : Point
 probe = point_at (pos 1) (pos 2) (pos 3)
 
 abbrev pub number_from : Point → ℕ
-number_from p = number_of (of_parts (nat_abs p.x - 1) (nat_abs p.y - 1) (nat_abs p.z - 1) (int_lt p.x (pos 0)) (int_lt p.y (pos 0)) (int_lt p.z (pos 0)))
+number_from p = matrix_number (of_parts (nat_abs p.x - 1) (nat_abs p.y - 1) (nat_abs p.z - 1) (int_lt p.x (pos 0)) (int_lt p.y (pos 0)) (int_lt p.z (pos 0)))
 
 all_numbers : all_below 48 (λ n. number_from (sent_by n probe) == n) ≡ true
 unfolding matrix

@@ -45,17 +45,17 @@ transposed m = record {
 }
 
 -- the number of a signed permutation matrix
-abbrev pub number_of : Matrix → ℕ
-number_of m =
+abbrev pub matrix_number : Matrix → ℕ
+matrix_number m =
     8 * (2 * m.from_x + from_bool (nat_lt m.from_z m.from_y)) + 4 * from_bool m.minus_x + 2 * from_bool m.minus_y + from_bool m.minus_z
 
 -- the number of b and then a
 unfoldable pub composed : ℕ → ℕ → ℕ
-composed a b = number_of (product (matrix a) (matrix b))
+composed a b = matrix_number (product (matrix a) (matrix b))
 
 -- the number of the inverse
 unfoldable pub inverse_of : ℕ → ℕ
-inverse_of a = number_of (transposed (matrix a))
+inverse_of a = matrix_number (transposed (matrix a))
 
 -- the permutation numbered p exchanges an odd number of coordinates
 abbrev pub is_odd : ℕ → Bool

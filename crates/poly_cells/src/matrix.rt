@@ -1,6 +1,6 @@
 //! Signed permutation matrices, by which symmetries are composed and inverted.
 ghost use Rattle.std.specs.Prelude.{◌≡◌, ◌≤◌, ◌<◌};
-ghost use Rattle.poly_cells.specs.Products.{from_at, minus_at, product, row_from, transposed, number_of};
+ghost use Rattle.poly_cells.specs.Products.{from_at, minus_at, product, row_from, transposed, matrix_number};
 
 use std::marker::Model;
 
@@ -118,7 +118,7 @@ impl SignedPermutation {
 
     /// The number of the symmetry with this matrix.
     pub fn number(self) -> u8
-        ensures value { result ≡ number_of self }
+        ensures value { result ≡ matrix_number self }
         ensures limit { result < 48 }
     {
         // In the list of permutations each source of x has two, and the one whose other sources rise comes first.

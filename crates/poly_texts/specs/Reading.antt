@@ -359,9 +359,9 @@ abbrev pub fault_with : DraftValue → List Coordinates → Option Fault
 fault_with s region = whole_fault s.pieces (names_unneeded s.maybe_pieces s.any_pieces s.spare) region s.maybe_cells
 
 -- the puzzle of all lines
-unfoldable pub whole : DraftValue → Result PuzzleValue Fault
-whole s = unless (fault_with s (region_of s)) (puzzle_said s)
+unfoldable pub whole_puzzle : DraftValue → Result PuzzleValue Fault
+whole_puzzle s = unless (fault_with s (region_of s)) (puzzle_said s)
 
 -- the puzzle of a text; or its first fault, and the number of its line, which is 0 for a fault of the whole text
 unfoldable pub puzzle_of : List ℕ → Result PuzzleValue (Fault × ℕ)
-puzzle_of text = text_read line nothing whole (lines_of text)
+puzzle_of text = text_read line nothing whole_puzzle (lines_of text)

@@ -12,7 +12,7 @@ ghost use Rattle.poly_texts.specs.Reading.{nothing, with_region};
 mod piece_lines;
 
 use crate::cells::{add_box, add_cells, are_all_in, uncut};
-use crate::fault::{Fault, LineFault};
+use crate::fault::{Fault, LineRefusal};
 use crate::key::{Key, key_of};
 use crate::limits::MOST_REGION_CELLS;
 use crate::name::PieceName;
@@ -74,31 +74,31 @@ impl Draft {
     }
 
     /// Whether the draft is within the limits.
-    fn within(&self) -> Result<(), LineFault>
+    fn within(&self) -> Result<(), LineRefusal>
         ensures { Gives (λ _. self.now) result (reading.within self.now) }
     {
         if self.named.len() > MOST_REGION_CELLS {
-            return Err(LineFault::Fault(Fault::TooLarge));
+            return Err(LineRefusal::Fault(Fault::TooLarge));
         }
         Ok(())
     }
 
     /// Takes the cells of a `box` line.
     #[tactic(auto, unfolding(crate::specs::Reading::box_line))]
-    fn take_box(&mut self, words: &[u8]) -> Result<(), LineFault>
+    fn take_box(&mut self, words: &[u8]) -> Result<(), LineRefusal>
         ensures { Becomes result self.new (reading.box_line self.old (words_of words.now)) }
     {
         let Some((a, b, c)) = three_words(words) else {
-            return Err(LineFault::Fault(Fault::BadLine));
+            return Err(LineRefusal::Fault(Fault::BadLine));
         };
         if !are_sizes(a, b, c) {
-            return Err(LineFault::Fault(Fault::BadLine));
+            return Err(LineRefusal::Fault(Fault::BadLine));
         }
         if self.is_boxed {
-            return Err(LineFault::Fault(Fault::SecondBox));
+            return Err(LineRefusal::Fault(Fault::SecondBox));
         }
         let Some((a, b, c)) = sizes_of(a, b, c) else {
-            return Err(LineFault::Fault(Fault::TooLarge));
+            return Err(LineRefusal::Fault(Fault::TooLarge));
         };
         add_box(&mut self.named, a, b, c)?;
         self.is_boxed = true;
@@ -107,11 +107,11 @@ impl Draft {
 
     /// Takes the cells of a `cells` line.
     #[tactic(auto, unfolding(crate::specs::Reading::cells_line))]
-    fn take_cells(&mut self, words: &[u8]) -> Result<(), LineFault>
+    fn take_cells(&mut self, words: &[u8]) -> Result<(), LineRefusal>
         ensures { Becomes result self.new (reading.cells_line self.old (words_of words.now)) }
     {
         if !has_words(words) {
-            return Err(LineFault::Fault(Fault::BadLine));
+            return Err(LineRefusal::Fault(Fault::BadLine));
         }
         add_cells(&mut self.named, words)?;
         self.within()
@@ -119,11 +119,11 @@ impl Draft {
 
     /// Takes the cells of a `maybe cells` line.
     #[tactic(auto, unfolding(crate::specs::Reading::maybe_cells_line))]
-    fn take_maybe_cells(&mut self, words: &[u8]) -> Result<(), LineFault>
+    fn take_maybe_cells(&mut self, words: &[u8]) -> Result<(), LineRefusal>
         ensures { Becomes result self.new (reading.maybe_cells_line self.old (words_of words.now)) }
     {
         if !has_words(words) {
-            return Err(LineFault::Fault(Fault::BadLine));
+            return Err(LineRefusal::Fault(Fault::BadLine));
         }
         add_cells(&mut self.named, words)?;
         add_cells(&mut self.maybe_cells, words)?;
@@ -132,22 +132,22 @@ impl Draft {
 
     /// Takes the cells of a `cut` line.
     #[tactic(auto, unfolding(crate::specs::Reading::cut_line))]
-    fn take_cut(&mut self, words: &[u8]) -> Result<(), LineFault>
+    fn take_cut(&mut self, words: &[u8]) -> Result<(), LineRefusal>
         ensures { Becomes result self.new (reading.cut_line self.old (words_of words.now)) }
     {
         if !has_words(words) {
-            return Err(LineFault::Fault(Fault::BadLine));
+            return Err(LineRefusal::Fault(Fault::BadLine));
         }
         add_cells(&mut self.cut, words)
     }
 
     /// Takes what a `maybe` line says after that word.
     #[tactic(auto, unfolding(crate::specs::Reading::maybe_line))]
-    fn take_maybe(&mut self, alloc: Global, words: &[u8]) -> Result<(), LineFault>
+    fn take_maybe(&mut self, alloc: Global, words: &[u8]) -> Result<(), LineRefusal>
         ensures { Becomes result self.new (reading.maybe_line self.old (words_of words.now)) }
     {
         let Some((key, words)) = split_word(words) else {
-            return Err(LineFault::Fault(Fault::BadLine));
+            return Err(LineRefusal::Fault(Fault::BadLine));
         };
         match key_of(key) {
             Some(Key::Piece) => self.take_piece(alloc, Need::Maybe, false, false, words),
@@ -158,17 +158,17 @@ impl Draft {
             | Some(Key::Maybe)
             | Some(Key::Any)
             | Some(Key::Copies)
-            | None => Err(LineFault::Fault(Fault::BadLine)),
+            | None => Err(LineRefusal::Fault(Fault::BadLine)),
         }
     }
 
     /// Takes what an `any` line says after that word.
     #[tactic(auto, unfolding(crate::specs::Reading::any_line))]
-    fn take_any(&mut self, alloc: Global, words: &[u8]) -> Result<(), LineFault>
+    fn take_any(&mut self, alloc: Global, words: &[u8]) -> Result<(), LineRefusal>
         ensures { Becomes result self.new (reading.any_line self.old (words_of words.now)) }
     {
         let Some((key, words)) = split_word(words) else {
-            return Err(LineFault::Fault(Fault::BadLine));
+            return Err(LineRefusal::Fault(Fault::BadLine));
         };
         match key_of(key) {
             Some(Key::Piece) => self.take_piece(alloc, Need::Any, false, false, words),
@@ -179,7 +179,7 @@ impl Draft {
             | Some(Key::Maybe)
             | Some(Key::Any)
             | Some(Key::Copies)
-            | None => Err(LineFault::Fault(Fault::BadLine)),
+            | None => Err(LineRefusal::Fault(Fault::BadLine)),
         }
     }
 
@@ -189,23 +189,23 @@ impl Draft {
         alloc: Global,
         need: Need,
         words: &[u8],
-    ) -> Result<(), LineFault>
+    ) -> Result<(), LineRefusal>
         ensures { Becomes result self.new
             (reading.mirrored_copies self.old need (words_of words.now)) }
     {
         if !need.is_must() {
-            return Err(LineFault::Fault(Fault::BadLine));
+            return Err(LineRefusal::Fault(Fault::BadLine));
         }
         self.take_copies(alloc, true, words)
     }
 
     /// Takes what a `mirror` line says after that word.
     #[tactic(auto, unfolding(crate::specs::Reading::mirror_line))]
-    fn take_mirror(&mut self, alloc: Global, need: Need, words: &[u8]) -> Result<(), LineFault>
+    fn take_mirror(&mut self, alloc: Global, need: Need, words: &[u8]) -> Result<(), LineRefusal>
         ensures { Becomes result self.new (reading.mirror_line self.old need (words_of words.now)) }
     {
         let Some((key, words)) = split_word(words) else {
-            return Err(LineFault::Fault(Fault::BadLine));
+            return Err(LineRefusal::Fault(Fault::BadLine));
         };
         match key_of(key) {
             Some(Key::Piece) => self.take_piece(alloc, need, false, true, words),
@@ -216,13 +216,13 @@ impl Draft {
             | Some(Key::Maybe)
             | Some(Key::Any)
             | Some(Key::Mirror)
-            | None => { Err(LineFault::Fault(Fault::BadLine)) }
+            | None => { Err(LineRefusal::Fault(Fault::BadLine)) }
         }
     }
 
     /// Takes a line of these words.
     #[tactic(auto, unfolding(crate::specs::Reading::words_line))]
-    fn take_words(&mut self, alloc: Global, words: &[u8]) -> Result<(), LineFault>
+    fn take_words(&mut self, alloc: Global, words: &[u8]) -> Result<(), LineRefusal>
         ensures { Becomes result self.new (reading.words_line self.old (words_of words.now)) }
     {
         let Some((key, words)) = split_word(words) else {
@@ -237,7 +237,7 @@ impl Draft {
             Some(Key::Any) => self.take_any(alloc, words),
             Some(Key::Mirror) => self.take_mirror(alloc, Need::Must, words),
             Some(Key::Copies) => self.take_copies(alloc, false, words),
-            None => Err(LineFault::Fault(Fault::BadLine)),
+            None => Err(LineRefusal::Fault(Fault::BadLine)),
         }
     }
 
@@ -280,14 +280,14 @@ impl Draft {
     }
 
     /// The region of a whole text, and its cells that may stay empty.
-    #[tactic(auto, unfolding(crate::specs::Reading::whole))]
-    fn whole_region(&self, alloc: Global) -> Result<(Shape, Vec<Cell>), LineFault>
-        ensures { Gives (λ r. with_region self.now r.0 r.1.items) result (reading.whole self.now) }
+    #[tactic(auto, unfolding(crate::specs::Reading::whole_puzzle))]
+    fn whole_region(&self, alloc: Global) -> Result<(Shape, Vec<Cell>), LineRefusal>
+        ensures { Gives (λ r. with_region self.now r.0 r.1.items) result (reading.whole_puzzle self.now) }
     {
         let region = self.region(alloc)?;
         let maybe_cells = self.optional_cells(alloc)?;
         if let Some(fault) = self.whole_fault(region.as_slice()) {
-            return Err(LineFault::Fault(fault));
+            return Err(LineRefusal::Fault(fault));
         }
         Ok((Shape::new(region), maybe_cells))
     }
@@ -311,9 +311,9 @@ impl Draft {
     }
 
     /// The puzzle of a whole text.
-    pub fn into_puzzle(self, alloc: Global) -> Result<Puzzle, LineFault>
-        requires { (p : PuzzleValue) → reading.whole self ≡ Ok p → IsPuzzle p }
-        ensures { Gives (λ p. p) result (reading.whole self) }
+    pub fn into_puzzle(self, alloc: Global) -> Result<Puzzle, LineRefusal>
+        requires { (p : PuzzleValue) → reading.whole_puzzle self ≡ Ok p → IsPuzzle p }
+        ensures { Gives (λ p. p) result (reading.whole_puzzle self) }
     {
         let (region, maybe_cells) = self.whole_region(alloc)?;
         Ok(self.with_region(region, maybe_cells))
@@ -326,10 +326,10 @@ impl ByLine for Draft {
     ghost line = { reading.line };
 
     #[tactic(auto, unfolding(crate::specs::Reading::line, text_lines::specs::Reading::plain_line))]
-    fn add_line(&mut self, alloc: Global, bytes: &[u8]) -> Result<(), LineFault> {
+    fn add_line(&mut self, alloc: Global, bytes: &[u8]) -> Result<(), LineRefusal> {
         let said = outside_comment(bytes);
         if !is_all_plain(said) {
-            return Err(LineFault::Fault(Fault::BadLine));
+            return Err(LineRefusal::Fault(Fault::BadLine));
         }
         self.take_words(alloc, said)
     }

@@ -8,7 +8,7 @@ ghost use Rattle.poly_texts.specs.Reading as reading;
 ghost use Rattle.poly_texts.specs.Reading.{group_of, has_piece, is_taken, named_shapes, names_if, some_repeated};
 ghost use Rattle.poly_texts.specs.Lists.{lists_of};
 
-use crate::fault::{Fault, LineFault};
+use crate::fault::{Fault, LineRefusal};
 use crate::name::PieceName;
 use crate::need::Need;
 use indexmap::IndexMap;
@@ -82,17 +82,17 @@ pub fn new_names(
     need: Need,
     are_several: bool,
     word: &[u8],
-) -> Result<Vec<PieceName>, LineFault>
+) -> Result<Vec<PieceName>, LineRefusal>
     ensures name { Gives (λ names. names.items) result (reading.new_names
         (is_taken pieces.now.entries (lists_of symbols.now)) need are_several word.now) }
     ensures new { IfOk result (λ names.
         some_repeated (is_taken pieces.now.entries (lists_of symbols.now)) names.items ≡ false) }
 {
     let Some(names) = PieceName::all_of(alloc, need, are_several, word)? else {
-        return Err(LineFault::Fault(Fault::BadLine));
+        return Err(LineRefusal::Fault(Fault::BadLine));
     };
     if is_repeated(pieces, symbols, names.as_slice()) {
-        return Err(LineFault::Fault(Fault::RepeatedPiece));
+        return Err(LineRefusal::Fault(Fault::RepeatedPiece));
     }
     Ok(names)
 }

@@ -12,7 +12,7 @@ use Rattle.poly_place.specs.Packings.{packing_problem}
 use Rattle.x_steps.specs.StateValue.{StateValue, start, done}
 use Rattle.x_steps.specs.Steps.{Fits}
 use Rattle.x_steps.specs.Run.{visits, states_between}
-use Rattle.x_steps.specs.Machine.{Position}
+use Rattle.x_steps.specs.Machine.{MachineValue}
 use Rattle.x_steps.proofs.BetweenLemmas.{states_between_join, visits_join}
 use Rattle.x_steps.proofs.RunLemmas.{start_fits, done_fits, start_first, done_last}
 use Rattle.x_texts.specs.Words.{visit_words}
@@ -67,11 +67,11 @@ module _ (n : ℕ) (p : ProblemValue) where
           whole = λ l. e;
         }
 
-  module _ (m : Position) (at_first : m ≡ record { problem = p; state = start }) (r : ReportValue) (t : StateValue) where
+  module _ (m : MachineValue) (at_first : m ≡ record { problem = p; state = start }) (r : ReportValue) (t : StateValue) where
     pub first_report : (Some n ≡ Some r.visited) ⊎ (t ≡ stop_from prelude.None m []) → ForSome (Some n) (λ k. r.visited ≤ k) → Fits m.problem t → r ≡ report_from true m t → IsFirstReport n p r
     first_report stop few fits report =
-        let there : Fits p t = subst (λ (q : Position). Fits q.problem t) at_first fits in
-        let told : r ≡ stretch_report true p start t = report ∙ ap (λ (q : Position). stretch_report true q.problem q.state t) at_first in
+        let there : Fits p t = subst (λ (q : MachineValue). Fits q.problem t) at_first fits in
+        let told : r ≡ stretch_report true p start t = report ∙ ap (λ (q : MachineValue). stretch_report true q.problem q.state t) at_first in
         by stop there told
       where
         by : (Some n ≡ Some r.visited) ⊎ (t ≡ stop_from prelude.None m []) → Fits p t → r ≡ stretch_report true p start t → IsFirstReport n p r

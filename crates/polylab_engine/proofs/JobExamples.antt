@@ -26,7 +26,7 @@ use Rattle.polylab_engine.specs.declared.job.PuzzleJob.TheVariants as puzzle_job
 use Rattle.polylab_engine.specs.Jobs.{is_first, takes_commands}
 use Rattle.polylab_engine.specs.Refusals.{pool_faults}
 use Rattle.polylab_engine.specs.declared.fault.JobFault.TheVariants as faults
-use Rattle.polylab_engine.specs.declared.engine.Ending.TheVariants as endings
+use Rattle.polylab_engine.specs.declared.engine.RunEnding.TheVariants as endings
 use Rattle.polylab_engine.specs.Account.{account_of, report_of, AreSums, PassesBlock}
 use Rattle.polylab_engine.specs.Stretch.{end_at, steps_taken}
 use Rattle.polylab_engine.specs.Debugged.{debug_output, job_fault}

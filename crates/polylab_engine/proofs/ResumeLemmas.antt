@@ -9,7 +9,7 @@ use Rattle.x_steps.specs.StateValue.{StateValue, at, done}
 use Rattle.x_steps.specs.Steps.{Fits}
 use Rattle.x_steps.specs.Run.{after, steps_between, ReachesIn}
 use Rattle.x_steps.specs.Rank.{rank}
-use Rattle.x_steps.specs.Machine.{Position}
+use Rattle.x_steps.specs.Machine.{MachineValue}
 use Rattle.x_steps.proofs.RunLemmas.{start_fits, done_fits, after_fits, leads_to, rises_between, steps_between_is}
 use Rattle.x_steps.proofs.BetweenLemmas.{steps_between_self}
 use Rattle.x_steps.proofs.StretchLemmas.{reached_rank}
@@ -127,7 +127,7 @@ module _ (v : SnapshotValue) (t : StateValue) (s : IsSnapshot (at_state v t)) wh
       rw test refl
 
 -- a machine at a snapshot's state stops where a stretch from there does
-pub stop_is : (most : Option ℕ) (v : SnapshotValue) (m : Position) (end : List ℕ) → m ≡ snapshot_position v → end_at end ≡ branch_end v → stop_from most m end ≡ stop_of most v
+pub stop_is : (most : Option ℕ) (v : SnapshotValue) (m : MachineValue) (end : List ℕ) → m ≡ snapshot_position v → end_at end ≡ branch_end v → stop_from most m end ≡ stop_of most v
 stop_is most v m end here e =
-    ap (λ (q : Position). stop_from most q end) here
+    ap (λ (q : MachineValue). stop_from most q end) here
     ∙ ap (λ (s : StateValue). after v.problem (steps_taken most (steps_between v.problem v.state s)) v.state) e

@@ -12,8 +12,8 @@ use Rattle.x_steps.specs.StateValue.{StateValue, done}
 use Rattle.x_steps.specs.Steps.{Fits}
 use Rattle.x_steps.specs.Run.{after, states, visits, level_count, steps_between, states_between, ReachesIn}
 use Rattle.x_steps.specs.Rank.{rank}
-use Rattle.x_steps.specs.Machine.{Position}
-use Rattle.x_steps.specs.Walk.{last_event, is_visited, OnlyMoves, IsAtCut, AreCounted, HasRoom, IsWalk}
+use Rattle.x_steps.specs.Machine.{MachineValue}
+use Rattle.x_steps.specs.Walk.{last_event, is_visited, OnlyMoves, IsAtCut, AreCounted, CountsHaveRoom, IsWalk}
 use Rattle.x_steps.proofs.BetweenLemmas.{states_between_self, states_between_join, steps_between_self, steps_between_join, length-states, counts_at, visits_join, level_count_join}
 use Rattle.x_steps.proofs.StretchLemmas.{reached_fits, reached_rank}
 use Rattle.x_steps.proofs.RunLemmas.{end_is, done_last, leads_to, rank_once, rises_between, steps_between_is}
@@ -114,7 +114,7 @@ module _ (keeps : Bool) (p : ProblemValue) (ss : List StateValue) (a : Account) 
 -- ---- the loop
 
 -- the machine searches p, between where it began and the branch's end, and the tally tells of the states since then
-pub record Searches (keeps : Bool) (p : ProblemValue) (from : StateValue) (end : List ℕ) (most : Option ℕ) (m : Position) (a : Account) (counts : List ℕ) (room : ℕ) (left : Option ℕ) : Type 0 where
+pub record Searches (keeps : Bool) (p : ProblemValue) (from : StateValue) (end : List ℕ) (most : Option ℕ) (m : MachineValue) (a : Account) (counts : List ℕ) (room : ℕ) (left : Option ℕ) : Type 0 where
   pub sound : IsProblem p
   pub same : m.problem ≡ p
   pub from_fits : Fits p from
@@ -123,10 +123,10 @@ pub record Searches (keeps : Bool) (p : ProblemValue) (from : StateValue) (end :
   pub begun : rank p from ≤ rank p m.state
   pub not_past : rank p m.state ≤ rank p (end_at end)
   pub tells : Tells keeps p (states_between p from m.state) a counts
-  pub fitting : HasRoom room counts
+  pub fitting : CountsHaveRoom room counts
   pub left_is : IsLeft most left (steps_between p from m.state)
 
-pub searches_begin : (keeps : Bool) (end : List ℕ) (most : Option ℕ) (m : Position) (a : Account) (counts : List ℕ) (n room : ℕ) → IsProblem m.problem → Fits m.problem m.state → Fits m.problem (end_at end)
+pub searches_begin : (keeps : Bool) (end : List ℕ) (most : Option ℕ) (m : MachineValue) (a : Account) (counts : List ℕ) (n room : ℕ) → IsProblem m.problem → Fits m.problem m.state → Fits m.problem (end_at end)
     → (ComesBefore m.problem (end_at end) m.state → ⊥) → n ≡ length m.problem.names → a ≡ empty_account n → counts ≡ replicate (n + 1) 0 → room < 2 ^ 32 → Searches keeps m.problem m.state end most m a counts room most
 searches_begin keeps end most m a counts n room sound fits end_fits not_past size e z l =
     let p = m.problem in
@@ -141,11 +141,11 @@ searches_begin keeps end most m a counts n room sound fits end_fits not_past siz
       begun = le_refl (rank p m.state);
       not_past = not_before p (end_at end) m.state end_fits fits not_past;
       tells = tells_all keeps p (states_between p m.state m.state) a counts (e ∙ ap empty_account size ∙ none_told keeps p ∙ ap (account_of keeps p) (sym none)) zeros;
-      fitting = subst (HasRoom room) (sym zeros) (zeros_room (length p.names + 1) room l);
+      fitting = subst (CountsHaveRoom room) (sym zeros) (zeros_room (length p.names + 1) room l);
       left_is = subst (IsLeft most most) (sym (steps_between_self p m.state fits)) (all_left most);
     }
 
-module _ (keeps : Bool) (p : ProblemValue) (from : StateValue) (end : List ℕ) (most : Option ℕ) (m new : Position) (a : Account) (counts later : List ℕ) (room n : ℕ) (left : Option ℕ) (event : Event)
+module _ (keeps : Bool) (p : ProblemValue) (from : StateValue) (end : List ℕ) (most : Option ℕ) (m new : MachineValue) (a : Account) (counts later : List ℕ) (room n : ℕ) (left : Option ℕ) (event : Event)
     (s : Searches keeps p from end most m a counts room left) (walk : IsWalk m.problem m.state new.state counts later n event) where
   here : ReachesIn p m.state new.state n
   here = subst (λ q. ReachesIn q m.state new.state n) s.same walk.reaches
@@ -238,7 +238,7 @@ module _ (keeps : Bool) (p : ProblemValue) (from : StateValue) (end : List ℕ) 
         as_many (inr (inr d)) = at_end (over d)
 
 -- the counts go into the tally, and others begin
-pub searches_anew : (keeps : Bool) (p : ProblemValue) (from : StateValue) (end : List ℕ) (most : Option ℕ) (m : Position) (a b : Account) (counts zeros : List ℕ) (n room more : ℕ) (left : Option ℕ) → Searches keeps p from end most m a counts room left
+pub searches_anew : (keeps : Bool) (p : ProblemValue) (from : StateValue) (end : List ℕ) (most : Option ℕ) (m : MachineValue) (a b : Account) (counts zeros : List ℕ) (n room more : ℕ) (left : Option ℕ) → Searches keeps p from end most m a counts room left
     → b ≡ record a { entered = b.entered } → AreSums a.entered counts b.entered → n ≡ length p.names → zeros ≡ replicate (n + 1) 0 → more < 2 ^ 32 → Searches keeps p from end most m b zeros more left
 searches_anew keeps p from end most m a b counts zeros n room more left s others sums size z l =
     let whole = tells_whole keeps p (states_between p from m.state) a counts s.tells b others sums in
@@ -252,6 +252,6 @@ searches_anew keeps p from end most m a b counts zeros n room more left s others
       begun = s.begun;
       not_past = s.not_past;
       tells = tells_all keeps p (states_between p from m.state) b zeros whole zeros_are;
-      fitting = subst (HasRoom more) (sym zeros_are) (zeros_room (length p.names + 1) more l);
+      fitting = subst (CountsHaveRoom more) (sym zeros_are) (zeros_room (length p.names + 1) more l);
       left_is = s.left_is;
     }

@@ -11,7 +11,7 @@ use Rattle.x_steps.specs.StateValue.{StateValue, at, start, done}
 use Rattle.x_steps.specs.Steps.{Fits}
 use Rattle.x_steps.specs.Run.{after, steps_between, ReachesIn}
 use Rattle.x_steps.specs.Rank.{rank}
-use Rattle.x_steps.specs.Machine.{Position}
+use Rattle.x_steps.specs.Machine.{MachineValue}
 use Rattle.x_steps.specs.declared.event.Event.{Event}
 use Rattle.x_steps.specs.Walk.{IsAtCut, is_visited}
 use Rattle.x_steps.proofs.Neighbours.{split_last_cases}
@@ -182,14 +182,14 @@ module _ (p : ProblemValue) (s t : StateValue) (end : List ℕ) (n : ℕ) (fits 
 
 -- ---- the whole run, which is the stretch from X1 to Done
 
-module _ (keeps : Bool) (p : ProblemValue) (m : Position) (at_first : m ≡ record { problem = p; state = start }) where
+module _ (keeps : Bool) (p : ProblemValue) (m : MachineValue) (at_first : m ≡ record { problem = p; state = start }) where
   pub whole_not_past : ComesBefore m.problem (end_at []) m.state → ⊥
   whole_not_past =
-      subst (λ (n : Position). ComesBefore n.problem (end_at []) n.state → ⊥) (sym at_first)
+      subst (λ (n : MachineValue). ComesBefore n.problem (end_at []) n.state → ⊥) (sym at_first)
       (before_not p done start (done_fits p) (start_first p done (done_fits p)))
 
   pub whole_stretch : (r : ReportValue) (t : StateValue) → t ≡ after m.problem (steps_taken prelude.None (steps_between m.problem m.state (end_at []))) m.state
       → r ≡ stretch_report keeps m.problem m.state t → r ≡ whole_report keeps p
   whole_stretch r t stop report =
-      let here : t ≡ after p (steps_between p start done) start = stop ∙ ap (λ (n : Position). after n.problem (steps_between n.problem n.state done) n.state) at_first in
-      report ∙ ap (λ (n : Position). stretch_report keeps n.problem n.state t) at_first ∙ ap (stretch_report keeps p start) (here ∙ (run_leads p).ends)
+      let here : t ≡ after p (steps_between p start done) start = stop ∙ ap (λ (n : MachineValue). after n.problem (steps_between n.problem n.state done) n.state) at_first in
+      report ∙ ap (λ (n : MachineValue). stretch_report keeps n.problem n.state t) at_first ∙ ap (stretch_report keeps p start) (here ∙ (run_leads p).ends)

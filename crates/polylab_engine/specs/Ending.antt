@@ -11,13 +11,13 @@ use Rattle.lab_pool.specs.declared.fault.PoolFault.{PoolFault}
 use Rattle.polylab_engine.specs.declared.fault.JobFault.{JobFault}
 use Rattle.polylab_engine.specs.declared.fault.JobFault.TheVariants as faults
 use Rattle.polylab_engine.specs.declared.job.Job.{Job}
-use Rattle.polylab_engine.specs.declared.engine.Ending.{Ending}
-use Rattle.polylab_engine.specs.declared.engine.Ending.TheVariants.{Written, Refused, OutOfMemory, Pool, Unread, Unwritten}
+use Rattle.polylab_engine.specs.declared.engine.RunEnding.{RunEnding}
+use Rattle.polylab_engine.specs.declared.engine.RunEnding.TheVariants.{Written, Refused, OutOfMemory, Pool, Unread, Unwritten}
 use Rattle.polylab_engine.specs.Outcome.{job_outcome, to_write, no_memory, pool_refusal, bad_reader, bad_writer}
 use Rattle.polylab_engine.specs.Listed.{IsListed}
 
 -- how a run ends whose job could not be done
-abbrev pub ending_of : JobFault → Ending
+abbrev pub ending_of : JobFault → RunEnding
 ending_of faults.OutOfMemory = OutOfMemory
 ending_of (faults.Pool fault) = Pool fault
 
@@ -30,7 +30,7 @@ abbrev pub IsUnread : Stream → Stream → Type 0
 IsUnread old new = HasFailed new ⊎ (GoesPastLimit old × IsSound old new)
 
 -- what is true of the reader and the writer, before and after, where a run ends so
-abbrev pub IsEnd : Job → Stream → Stream → Stream → Stream → Ending → Type 0
+abbrev pub IsEnd : Job → Stream → Stream → Stream → Stream → RunEnding → Type 0
 IsEnd job r r' w w' Written = IsSound r r' × ((text : List ℕ) × IsOutcomeOf job r (Ok text) × TakesAll w w' text)
 IsEnd job r r' w w' (Refused line) = IsSound r r' × IsOutcomeOf job r (Err line.items) × Stays w w'
 IsEnd job r r' w w' OutOfMemory = IsSound r r' × Stays w w'
@@ -39,11 +39,11 @@ IsEnd job r r' w w' Unread = IsUnread r r' × Stays w w'
 IsEnd job r r' w w' Unwritten = IsSound r r' × ((text : List ℕ) × IsOutcomeOf job r (Ok text) × TakesPart w w' text)
 
 -- the same of a reader and a writer of whichever kinds, by what a contract sees of them
-abbrev pub EndsRun : {R W : Type 0} → (R → Stream) → (W → Stream) → Job → R → R → W → W → Ending → Type 0
+abbrev pub EndsRun : {R W : Type 0} → (R → Stream) → (W → Stream) → Job → R → R → W → W → RunEnding → Type 0
 EndsRun seen shown job r r' w w' ending = IsEnd job (seen r) (seen r') (shown w) (shown w') ending
 
 -- what is told where a run ends so
-abbrev pub IsTold : Ending → Stream → Stream → Type 0
+abbrev pub IsTold : RunEnding → Stream → Stream → Type 0
 IsTold Written old new = Stays old new
 IsTold (Refused line) old new = Takes old new line.items
 IsTold OutOfMemory old new = Takes old new no_memory
@@ -52,7 +52,7 @@ IsTold Unread old new = Takes old new bad_reader
 IsTold Unwritten old new = Takes old new bad_writer
 
 -- the exit status of a run that ends so
-abbrev pub status_of : Ending → ℕ
+abbrev pub status_of : RunEnding → ℕ
 status_of Written = 0
 status_of (Refused line) = 3
 status_of OutOfMemory = 4

@@ -14,8 +14,8 @@ use Rattle.polylab_engine.specs.declared.job.CoverJob.{CoverJob}
 use Rattle.polylab_engine.specs.declared.job.CoverJob.TheVariants as cover_jobs
 use Rattle.polylab_engine.specs.declared.job.PuzzleJob.{PuzzleJob}
 use Rattle.polylab_engine.specs.declared.job.PuzzleJob.TheVariants as puzzle_jobs
-use Rattle.polylab_engine.specs.declared.engine.Ending.{Ending}
-use Rattle.polylab_engine.specs.declared.engine.Ending.TheVariants as endings
+use Rattle.polylab_engine.specs.declared.engine.RunEnding.{RunEnding}
+use Rattle.polylab_engine.specs.declared.engine.RunEnding.TheVariants as endings
 use Rattle.polylab_engine.specs.Outcome.{no_memory, pool_refusal}
 
 -- a fault is want of memory, or a fault of workers that may be
@@ -49,7 +49,7 @@ pool_faults (jobs.Puzzle job) May = puzzle_faults job May
 pool_faults (jobs.Resume steps list) May = NoPool
 
 -- a run that ends by a fault of workers ends by one that may be
-abbrev pub IsEndingOf : (PoolFault → Type 0) → Ending → Type 0
+abbrev pub IsEndingOf : (PoolFault → Type 0) → RunEnding → Type 0
 IsEndingOf May (endings.Pool fault) = May fault
 IsEndingOf May _ = ⊤
 

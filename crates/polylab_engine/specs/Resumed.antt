@@ -15,7 +15,7 @@ use Rattle.polylab_engine.specs.Output.{report_text}
 use Rattle.polylab_engine.specs.Stretch.{steps_taken, stretch_report}
 use Rattle.polylab_engine.specs.Account.{ReportValue}
 use Rattle.x_snapshot.specs.Judged.{snapshot_of}
-use Rattle.x_steps.specs.Machine.{Position}
+use Rattle.x_steps.specs.Machine.{MachineValue}
 use Rattle.std.specs.Prelude.{◌≡◌, Ok}
 
 -- the state that ends a snapshot's branch
@@ -27,7 +27,7 @@ abbrev pub stop_of : Option ℕ → SnapshotValue → StateValue
 stop_of most v = after v.problem (steps_taken most (steps_between v.problem v.state (branch_end v))) v.state
 
 -- the position of a machine that stands at a snapshot's state
-abbrev pub snapshot_position : SnapshotValue → Position
+abbrev pub snapshot_position : SnapshotValue → MachineValue
 snapshot_position v = record { problem = v.problem; state = v.state }
 
 -- the report of the stretch from a snapshot's state up to t

@@ -11,7 +11,7 @@ use Rattle.x_branches.specs.Cut.{cut_state}
 use Rattle.polylab_engine.specs.Account.{ReportValue, account_of, report_of}
 use Rattle.x_steps.specs.declared.state.Label.TheVariants.{Done}
 use Rattle.x_steps.specs.Run.{after, steps_between}
-use Rattle.x_steps.specs.Machine.{Position}
+use Rattle.x_steps.specs.Machine.{MachineValue}
 use Rattle.x_steps.specs.Walk.{IsAtCut}
 use Rattle.std.specs.Prelude.{◌≡◌, ◌⊎◌}
 
@@ -30,16 +30,16 @@ abbrev pub stretch_report : Bool → ProblemValue → StateValue → StateValue 
 stretch_report keeps p s t = report_of (account_of keeps p (states_between p s t))
 
 -- the state of a machine at this position after so many steps
-abbrev pub state_at : Position → ℕ → StateValue
+abbrev pub state_at : MachineValue → ℕ → StateValue
 state_at m n = after m.problem n m.state
 
 -- the state where a stretch from a machine's position on stops: at the end of a branch, which is the cut of these choices or Done, or
 -- as many steps on as are asked for, where that comes first
-abbrev pub stop_from : Option ℕ → Position → List ℕ → StateValue
+abbrev pub stop_from : Option ℕ → MachineValue → List ℕ → StateValue
 stop_from most m end = state_at m (steps_taken most (steps_between m.problem m.state (end_at end)))
 
 -- the report of the stretch from a machine's position up to t
-abbrev pub report_from : Bool → Position → StateValue → ReportValue
+abbrev pub report_from : Bool → MachineValue → StateValue → ReportValue
 report_from keeps m t = stretch_report keeps m.problem m.state t
 
 -- a state ends a branch: it is at the cut of these choices, or it is Done

@@ -17,7 +17,7 @@ use crate::job::Job;
 use crate::report::Report;
 use crate::search::search_together;
 use crate::tables::TableKind;
-use crate::workers::{Alone, Crew, Together, Workers};
+use crate::workers::{Alone, Team, Together, Workers};
 use byte_streams::{InputFault, Sink, Source, read_whole, write_whole};
 use cover_links::LinkTable;
 use cover_problem::{Lists, Problem};
@@ -28,7 +28,7 @@ use std::thread::Threads;
 
 /// How a run ended.
 #[derive(Drop)]
-pub enum Ending {
+pub enum RunEnding {
     /// All was written.
     Written,
     /// The input was refused by this line.
@@ -43,28 +43,28 @@ pub enum Ending {
     Unwritten,
 }
 
-impl From<JobFault> for Ending {
+impl From<JobFault> for RunEnding {
     ghost use Rattle.polylab_engine.specs.Ending.{ending_of};
 
     ghost from_gives = { λ fault ending. ending ≡ ending_of fault };
 
-    fn from(fault: JobFault) -> Ending {
+    fn from(fault: JobFault) -> RunEnding {
         match fault {
-            JobFault::OutOfMemory => Ending::OutOfMemory,
-            JobFault::Pool(fault) => Ending::Pool(fault),
+            JobFault::OutOfMemory => RunEnding::OutOfMemory,
+            JobFault::Pool(fault) => RunEnding::Pool(fault),
         }
     }
 }
 
 /// The exit status of a run that ended so.
-fn status(ending: &Ending) -> u8
+fn status(ending: &RunEnding) -> u8
     ensures { result ≡ status_of ending.now }
 {
     match ending {
-        Ending::Written => 0,
-        Ending::Refused(_) => 3,
-        Ending::OutOfMemory | Ending::Pool(_) => 4,
-        Ending::Unread | Ending::Unwritten => 5,
+        RunEnding::Written => 0,
+        RunEnding::Refused(_) => 3,
+        RunEnding::OutOfMemory | RunEnding::Pool(_) => 4,
+        RunEnding::Unread | RunEnding::Unwritten => 5,
     }
 }
 
@@ -77,16 +77,16 @@ fn tell<F: Sink>(faults: &mut F, line: &[u8])
 }
 
 /// Tells how the run ended.
-fn tell_ending<F: Sink>(faults: &mut F, ending: &Ending)
+fn tell_ending<F: Sink>(faults: &mut F, ending: &RunEnding)
     ensures { IsTold ending.now (F.stream faults.old) (F.stream faults.new) }
 {
     match ending {
-        Ending::Written => {}
-        Ending::Refused(line) => tell(faults, line),
-        Ending::OutOfMemory => tell(faults, b"refused memory\n"),
-        Ending::Pool(fault) => tell(faults, pool_line(*fault)),
-        Ending::Unread => tell(faults, b"refused input\n"),
-        Ending::Unwritten => tell(faults, b"refused output\n"),
+        RunEnding::Written => {}
+        RunEnding::Refused(line) => tell(faults, line),
+        RunEnding::OutOfMemory => tell(faults, b"refused memory\n"),
+        RunEnding::Pool(fault) => tell(faults, pool_line(*fault)),
+        RunEnding::Unread => tell(faults, b"refused input\n"),
+        RunEnding::Unwritten => tell(faults, b"refused output\n"),
     }
 }
 
@@ -97,24 +97,24 @@ fn work<W: Workers, I: Source, O: Sink>(
     workers: &W,
     reader: &mut I,
     writer: &mut O,
-) -> Ending
+) -> RunEnding
     requires { W.ready workers.now }
     ensures ends { EndsRun I.stream O.stream job reader.old reader.new writer.old writer.new result }
     ensures why { IsEndingOf (pool_faults job (W.refuses workers.now)) result }
 {
     let bytes = match read_whole(alloc, reader) {
         Ok(bytes) => bytes,
-        Err(InputFault::OutOfMemory) => return Ending::OutOfMemory,
-        Err(_) => return Ending::Unread,
+        Err(InputFault::OutOfMemory) => return RunEnding::OutOfMemory,
+        Err(_) => return RunEnding::Unread,
     };
     match answer_to(alloc, job, workers, bytes) {
         // Nothing is written before the whole answer is there, so that no fault leaves half of it.
         Ok(JobAnswer::Text(text)) => match write_whole(writer, &text) {
-            Ok(()) => Ending::Written,
-            Err(_) => Ending::Unwritten,
+            Ok(()) => RunEnding::Written,
+            Err(_) => RunEnding::Unwritten,
         },
-        Ok(JobAnswer::Refused(line)) => Ending::Refused(line),
-        Err(fault) => Ending::from(fault),
+        Ok(JobAnswer::Refused(line)) => RunEnding::Refused(line),
+        Err(fault) => RunEnding::from(fault),
     }
 }
 
@@ -164,7 +164,7 @@ pub fn run_alone<I: Source, O: Sink, F: Sink>(
 pub fn run_together<R: Threads + Wait + Sync, G: Gate, I: Source, O: Sink, F: Sink>(
     alloc: Global,
     job: Job,
-    crew: &Crew<'_, R, G>,
+    crew: &Team<'_, R, G>,
     reader: &mut I,
     writer: &mut O,
     faults: &mut F,

@@ -24,4 +24,4 @@ mod workers;
 pub use engine::{run_alone, run_together};
 pub use job::{CoverJob, Job, PuzzleJob};
 pub use tables::TableKind;
-pub use workers::Crew;
+pub use workers::Team;

@@ -12,7 +12,7 @@ use crate::searcher::Searcher;
 use crate::stretch::search_on;
 use crate::tables::{TableKind, table_for};
 use crate::visits::Visits;
-use crate::workers::Crew;
+use crate::workers::Team;
 use cover_bits::BitTable;
 use cover_links::LinkTable;
 use cover_problem::{Lists, Problem, Table};
@@ -52,7 +52,7 @@ pub fn search_first<V: Visits>(
 /// The report of workers who share a book of the run.
 pub fn search_together<R: Threads + Wait + Sync, G: Gate>(
     alloc: Global,
-    crew: &Crew<'_, R, G>,
+    crew: &Team<'_, R, G>,
     problem: &Problem,
     keeps: bool,
 ) -> Result<Report<Lists>, JobFault>
@@ -70,7 +70,7 @@ pub fn search_together<R: Threads + Wait + Sync, G: Gate>(
 /// The same by tables of this kind.
 fn share_by<T: Table + Send + Sync, R: Threads + Wait + Sync, G: Gate>(
     alloc: Global,
-    crew: &Crew<'_, R, G>,
+    crew: &Team<'_, R, G>,
     problem: &Problem,
     keeps: bool,
 ) -> Result<Report<Lists>, JobFault>

@@ -6,7 +6,7 @@ ghost use Rattle.x_steps.specs.StateValue.{start};
 ghost use Rattle.x_steps.specs.StateView.{state_value, IsState};
 ghost use Rattle.x_steps.specs.Steps.{Fits};
 ghost use Rattle.x_steps.specs.Resume.{position};
-ghost use Rattle.polylab_engine.specs.Searcher.{place_of, stands};
+ghost use Rattle.polylab_engine.specs.Searcher.{machine_value, stands};
 
 use crate::tables::TableKind;
 use cover_bits::{BitTable, has_room};
@@ -64,7 +64,7 @@ pub fn first_state(alloc: Global) -> State
 
 /// Goes on by bits at the same state, where there is memory for them.
 fn by_bits(alloc: Global, links: Machine<'_, LinkTable>) -> AnyMachine<'_>
-    ensures { place_of result ≡ links.entry }
+    ensures { machine_value result ≡ links.entry }
 {
     match machine_at::<BitTable>(alloc, links.problem(), links.state()) {
         Ok(bits) => AnyMachine::Bits(bits),
@@ -74,7 +74,7 @@ fn by_bits(alloc: Global, links: Machine<'_, LinkTable>) -> AnyMachine<'_>
 
 /// By bits where they have room and a short search from here on prefers them, or else by links.
 fn preferred(alloc: Global, links: Machine<'_, LinkTable>) -> AnyMachine<'_>
-    ensures { place_of result ≡ links.entry }
+    ensures { machine_value result ≡ links.entry }
 {
     let mut links = links;
     // The short search goes back, so that no table is made again where links are taken.
@@ -87,7 +87,7 @@ fn preferred(alloc: Global, links: Machine<'_, LinkTable>) -> AnyMachine<'_>
 
 /// By links where a short search from here on prefers them and there is memory for them, or else by bits.
 fn preferred_again(alloc: Global, bits: Machine<'_, BitTable>) -> AnyMachine<'_>
-    ensures { place_of result ≡ bits.entry }
+    ensures { machine_value result ≡ bits.entry }
 {
     // Links tell what either table would pay. Bits could too, but the short search is to cost little where links are better.
     let Ok(links) = machine_at::<LinkTable>(alloc, bits.problem(), bits.state()) else {
@@ -110,7 +110,7 @@ fn any_at<'p>(
     state: &State,
 ) -> Result<AnyMachine<'p>, AllocError>
     requires { IsState problem.now state.now }
-    ensures { IfOk result (λ m. place_of m ≡ position problem.now (state_value state.now)) }
+    ensures { IfOk result (λ m. machine_value m ≡ position problem.now (state_value state.now)) }
 {
     match table {
         None => Ok(preferred(alloc, machine_at(alloc, problem, state)?)),

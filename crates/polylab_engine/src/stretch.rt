@@ -3,7 +3,7 @@ ghost use Rattle.std.specs.Prelude.{◌≡◌, ◌<◌, ◌≤◌, ◌-◌, ◌+
 ghost use Rattle.std.specs.Option.{ForSome};
 ghost use Rattle.x_steps.specs.StateView.{state_value};
 ghost use Rattle.x_steps.specs.Steps.{Fits};
-ghost use Rattle.x_steps.specs.Walk.{IsAtCut, IsWalkOf, HasRoom};
+ghost use Rattle.x_steps.specs.Walk.{IsAtCut, IsWalkOf, CountsHaveRoom};
 ghost use Rattle.x_branches.specs.RunOrder.{ComesBefore};
 ghost use Rattle.polylab_engine.specs.Stretch.{end_at, stop_from, report_from, IsAtEnd, state_at};
 ghost use Rattle.polylab_engine.specs.Searcher.{stands};
@@ -57,7 +57,7 @@ fn walk_machine<T: Table>(
     counts: &mut [u32],
 ) -> Walk
     requires levels { length counts.old ≡ length machine.old.problem.names + 1 }
-    requires room { HasRoom most counts.old }
+    requires room { CountsHaveRoom most counts.old }
     ensures problem { machine.new.problem ≡ machine.old.problem }
     ensures walk { IsWalkOf machine.old machine.new counts.old counts.new result }
     ensures within { result.steps ≤ most }
@@ -77,7 +77,7 @@ fn walk_machine<T: Table>(
 /// The same for a search by either table. Which one is asked for each walk alone, and not for each call of the table.
 fn walk_on(searcher: &mut Searcher<'_>, most: u32, end: &[u32], counts: &mut [u32]) -> Walk
     requires levels { length counts.old ≡ length (stands searcher.old).problem.names + 1 }
-    requires room { HasRoom most counts.old }
+    requires room { CountsHaveRoom most counts.old }
     ensures problem { (stands searcher.new).problem ≡ (stands searcher.old).problem }
     ensures walk { IsWalkOf (stands searcher.old) (stands searcher.new) counts.old counts.new result }
     ensures within { result.steps ≤ most }

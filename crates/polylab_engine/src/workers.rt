@@ -19,7 +19,7 @@ use x_texts::VisitText;
 
 /// Workers who share a search.
 #[derive(Drop)]
-pub struct Crew<'a, R, G> {
+pub struct Team<'a, R, G> {
     /// On whose threads they work.
     pub rt: &'a R,
     /// By what each is seen.

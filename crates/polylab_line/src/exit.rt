@@ -8,7 +8,7 @@ ghost use Rattle.polylab_line.specs.Line.{TellsNoJob, TellsWhy, search_faults, s
 use crate::line::{LineFault, Request};
 use byte_streams::{Sink, Source, write_whole};
 use lab_pool::Gate;
-use polylab_engine::{Crew, run_alone, run_together};
+use polylab_engine::{Team, run_alone, run_together};
 use std::alloc::Global;
 use std::sync::Wait;
 use std::thread::Threads;
@@ -68,7 +68,7 @@ pub fn status<R: Threads + Wait + Sync, G: Gate, I: Source, O: Sink, F: Sink>(
     if workers == 1 && !job.takes_commands() {
         run_alone(alloc, job, table, reader, writer, faults)
     } else {
-        let crew = Crew {
+        let crew = Team {
             rt,
             gate,
             count: workers,

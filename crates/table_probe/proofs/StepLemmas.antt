@@ -9,7 +9,7 @@ use Rattle.x_steps.specs.declared.state.Label.TheVariants.{X6}
 use Rattle.x_steps.specs.declared.state.Cursor.TheVariants.{At}
 use Rattle.x_steps.specs.StateValue.{StateValue}
 use Rattle.x_steps.specs.Steps.{Fits, FitsAt}
-use Rattle.x_steps.specs.Machine.{Position}
+use Rattle.x_steps.specs.Machine.{MachineValue}
 use Rattle.x_steps.specs.Resume.{position, standing_at}
 use Rattle.table_probe.specs.Words.{ServesItem}
 
@@ -28,5 +28,5 @@ serves p q c list k d same a e l =
     record { same = same; some = rw e i.0; within = rw e within }
 
 -- a machine that went back stands where it stood
-pub stands_again : (old on new : Position) (s : StateValue) → new ≡ standing_at on s → on.problem ≡ old.problem → s ≡ old.state → new ≡ old
+pub stands_again : (old on new : MachineValue) (s : StateValue) → new ≡ standing_at on s → on.problem ≡ old.problem → s ≡ old.state → new ≡ old
 stands_again old on new s e p t = e ∙ ap₂ position p t

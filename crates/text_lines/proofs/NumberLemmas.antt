@@ -7,7 +7,7 @@ use Rattle.std.specs.Fmt.{decimal}
 use Rattle.std.specs.List.{list_all}
 use Rattle.std.proofs.lemmas.Str.Parse.{IsNumeralModel, IsDigitsTest, numerals_by_fold}
 use Rattle.std.proofs.lemmas.Fmt.{decimal_digit, first_decimal, digits_decimal, digits_value-decimal, decimal-digits_value}
-use Rattle.text_lines.specs.Numbers.{is_digit, begins_well, is_decimal, value_after, number_of}
+use Rattle.text_lines.specs.Numbers.{is_digit, begins_well, is_decimal, value_after, number_within}
 
 -- *the value, digit by digit*
 
@@ -49,10 +49,10 @@ none_above_step : (d : Bool) (v most : ℕ) → most < v → None ≡ cond (d &&
 none_above_step true v most h = let e : nat_le v most ≡ false = grind (arith, nat_tests) in rw e refl
 none_above_step false v most h = refl
 
-pub none_above : (most : ℕ) (word : List ℕ) → most < value_after 0 word → None ≡ number_of most word
+pub none_above : (most : ℕ) (word : List ℕ) → most < value_after 0 word → None ≡ number_within most word
 none_above most word h = none_above_step (is_decimal word) (value_after 0 word) most h
 
-pub some_within : (most : ℕ) (word : List ℕ) → is_decimal word ≡ true → value_after 0 word ≤ most → Some (value_after 0 word) ≡ number_of most word
+pub some_within : (most : ℕ) (word : List ℕ) → is_decimal word ≡ true → value_after 0 word ≤ most → Some (value_after 0 word) ≡ number_within most word
 some_within most word d h = let e : nat_le (value_after 0 word) most ≡ true = grind (arith, nat_tests) in rw (d, e) refl
 
 -- *the word of a number*
@@ -103,7 +103,7 @@ pub printed_is_decimal : (n : ℕ) → n < 2 ^ 64 → is_decimal (decimal n) ≡
 printed_is_decimal n h = and_from _ _ (printed_begins_well n h) (digits_decimal digits_numeral n h)
 
 -- a number at most the bound is read from the word that prints it
-pub reads_printed : (most n : ℕ) → most < 2 ^ 64 → n ≤ most → number_of most (decimal n) ≡ Some n
+pub reads_printed : (most n : ℕ) → most < 2 ^ 64 → n ≤ most → number_within most (decimal n) ≡ Some n
 reads_printed most n small h =
     let fits : n < 2 ^ 64 = omega arith in
     let v : value_after 0 (decimal n) ≡ n = value_of_decimal n fits in
@@ -116,7 +116,7 @@ read_step true most n value word e h =
     (cc, p.0, leb-true value most p.1)
 read_step false most n value word e h = cc
 
-pub printed_again : (most n : ℕ) (word : List ℕ) → most < 2 ^ 64 → number_of most word ≡ Some n → (word ≡ decimal n) × (n ≤ most)
+pub printed_again : (most n : ℕ) (word : List ℕ) → most < 2 ^ 64 → number_within most word ≡ Some n → (word ≡ decimal n) × (n ≤ most)
 printed_again most n word small h =
     let p : (value_after 0 word ≡ n) × (is_decimal word ≡ true) × (value_after 0 word ≤ most) = read_step (is_decimal word && nat_le (value_after 0 word) most) most n (value_after 0 word) word refl h in
     let q : (begins_well word ≡ true) × (list_all is_digit word ≡ true) = and_parts _ _ p.1 in

@@ -1,6 +1,6 @@
 -- Decimal numbers: words of digits, with no zero before another digit.
 --
--- Example: `0` and `205` are decimals, `05` and `+5` aren't; `number_of 204` of `205` is None.
+-- Example: `0` and `205` are decimals, `05` and `+5` aren't; `number_within 204` of `205` is None.
 -- proofs/NumberExamples.antt computes it.
 use Rattle.std.specs.Prelude.{ℕ, ◌+◌, ◌-◌, ◌*◌, ◌==◌, nat_le, List, [], ◌∷◌, Option, Some, None}
 use Rattle.std.specs.Prelude.{Bool, true, false, not, ◌&&◌, if◌then◌else◌}
@@ -26,5 +26,5 @@ value_after n [] = n
 value_after n (b ∷ bs) = value_after (10 * n + (b - 48)) bs
 
 -- the number that a word is, if it is one and at most the bound
-abbrev pub number_of : ℕ → List ℕ → Option ℕ
-number_of most word = if is_decimal word && nat_le (value_after 0 word) most then Some (value_after 0 word) else None
+abbrev pub number_within : ℕ → List ℕ → Option ℕ
+number_within most word = if is_decimal word && nat_le (value_after 0 word) most then Some (value_after 0 word) else None

@@ -32,7 +32,7 @@ pub fn is_decimal(word: &[u8]) -> bool
 
 /// The decimal number that a word is; None where it is none, or more than `most`.
 pub fn number(word: &[u8], most: u32) -> Option<u32>
-    ensures { result ≡ spec.number_of most word.now }
+    ensures { result ≡ spec.number_within most word.now }
 {
     if !is_decimal(word) {
         return None;

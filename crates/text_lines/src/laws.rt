@@ -3,7 +3,7 @@
 ghost use Rattle.std.specs.Prelude.{◌≡◌, true, ◌↔◌, ◌≤◌, ◌<◌, ◌^◌, ℕ, List, [], map, Result, Ok, Err, Some, decimal};
 ghost use Rattle.text_lines.specs.Lines.{lines_of};
 ghost use Rattle.text_lines.specs.Writing.{are_words, text_of, words_of_line, are_plain};
-ghost use Rattle.text_lines.specs.Numbers.{number_of};
+ghost use Rattle.text_lines.specs.Numbers.{number_within};
 ghost use Rattle.text_lines.specs.Each.{each, GoesThrough, Fails};
 ghost use Rattle.text_lines.specs.Reading.{FaultIsFirst, FaultIsOfWhole, SaysItsWords};
 
@@ -22,7 +22,7 @@ pub fn plain_lines_say_words()
 /// The word of a number is the text that printing it gives, and no other.
 pub fn number_is_as_printed()
     ensures { (most n : ℕ) (word : List ℕ) → most < 2 ^ 64 →
-        ((number_of most word ≡ Some n) ↔ ((word ≡ decimal n) × (n ≤ most))) }
+        ((number_within most word ≡ Some n) ↔ ((word ≡ decimal n) × (n ≤ most))) }
 {}
 
 /// Steps give a state where each of them goes on from what the one before left.

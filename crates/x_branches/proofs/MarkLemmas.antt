@@ -5,7 +5,7 @@ use Rattle.cover_problem.specs.Problem.{ProblemValue, IsProblem}
 use Rattle.cover_problem.proofs.NumberLemmas.{length-numbers}
 use Rattle.x_steps.specs.StateValue.{StateValue}
 use Rattle.x_steps.specs.Steps.{Fits}
-use Rattle.x_steps.specs.Machine.{Position}
+use Rattle.x_steps.specs.Machine.{MachineValue}
 use Rattle.x_steps.specs.Run.{level_count, levels, ReachesIn}
 use Rattle.x_steps.proofs.RunLemmas.{leads_none}
 use Rattle.x_steps.proofs.BetweenLemmas.{steps_between_self, states_between_self, visits_between_self}
@@ -41,7 +41,7 @@ module _ (p : ProblemValue) (b : Branch) (s : StateValue) (sound : IsProblem p) 
   }
 
   -- the same at copies of the state
-  pub started : (m : Position) (mark : StateValue) (n : ℕ) (visits : List (List ℕ)) (counts : List ℕ) → m ≡ record { problem = p; state = s } → mark ≡ s → n ≡ length p.names → visits ≡ [] → counts ≡ replicate (n + 1) 0 → KeepsRunner (record { problem = m.problem; branch = b; mark = mark; position = m.state }) 0 visits counts
+  pub started : (m : MachineValue) (mark : StateValue) (n : ℕ) (visits : List (List ℕ)) (counts : List ℕ) → m ≡ record { problem = p; state = s } → mark ≡ s → n ≡ length p.names → visits ≡ [] → counts ≡ replicate (n + 1) 0 → KeepsRunner (record { problem = m.problem; branch = b; mark = mark; position = m.state }) 0 visits counts
   started m mark n visits counts a c d e f = rw (a, c, e, f, d) here
 
 -- what is tested of a branch tells whether a runner can start in it

@@ -6,7 +6,7 @@ use Rattle.std.proofs.lemmas.List.{take_more, length-replicate, drop-replicate}
 use Rattle.cover_problem.specs.Problem.{ProblemValue}
 use Rattle.x_steps.specs.StateValue.{StateValue}
 use Rattle.x_steps.specs.Steps.{Fits}
-use Rattle.x_steps.specs.Machine.{Position}
+use Rattle.x_steps.specs.Machine.{MachineValue}
 use Rattle.x_steps.specs.Run.{steps_between, levels, ReachesIn}
 use Rattle.x_steps.specs.Levels.{without_last_zeros, trimmed_levels}
 use Rattle.x_steps.proofs.BetweenLemmas.{steps_between_self, length-levels}
@@ -84,7 +84,7 @@ module _ (r : RunnerValue) (steps : ℕ) (visits : List (List ℕ)) (counts : Li
       here = record { order = k.inside.stretch; steps_are = k.steps_are; visits_are = k.visits_are; levels_are = cut }
 
   -- nothing is left, and this branch begins at this state
-  pub begun_at : (b new : Branch) (s : StateValue) (m : Position) (mark : StateValue) (vs : List (List ℕ)) (cs : List ℕ) → new ≡ b → CanStart r.problem b s
+  pub begun_at : (b new : Branch) (s : StateValue) (m : MachineValue) (mark : StateValue) (vs : List (List ℕ)) (cs : List ℕ) → new ≡ b → CanStart r.problem b s
       → Fits r.problem (first_of b.lo) → Fits r.problem (end_of b.hi) → m ≡ record { problem = r.problem; state = s } → mark ≡ s → vs ≡ [] → cs ≡ replicate (length counts) 0
       → KeepsRunner (record { problem = m.problem; branch = new; mark = mark; position = m.state }) 0 vs cs
   begun_at b new s m mark vs cs e can first end here a d c =

@@ -18,7 +18,7 @@ use Rattle.x_steps.specs.StateValue.{StateValue, at, start}
 use Rattle.x_steps.specs.Steps.{Fits, next, next_at, event_at, event_of, is_level, is_open, is_visit}
 use Rattle.x_steps.specs.Before.{prev}
 use Rattle.x_steps.specs.Run.{after, states, visits, level_count, steps_between, states_between, visits_between, levels, ReachesIn}
-use Rattle.x_steps.specs.Walk.{last_event, is_visited, visit_told, OnlyMoves, AreCounted, HasRoom, IsAtCut, IsWalk}
+use Rattle.x_steps.specs.Walk.{last_event, is_visited, visit_told, OnlyMoves, AreCounted, CountsHaveRoom, IsAtCut, IsWalk}
 use Rattle.x_steps.specs.Rank.{rank}
 use Rattle.x_steps.proofs.Neighbours.{split_last_cases, prev_next}
 use Rattle.x_steps.proofs.RunLemmas.{after_fits, first_is, leads_join, none_before, start_first, steps_between_is}
@@ -195,7 +195,7 @@ module _ (r : RunnerValue) (steps : ℕ) (visited : List (List ℕ)) (counts : L
   walk_levels row e = ap (length {A = ℕ}) (e ∙ k.counts_are) ∙ length-levels r.problem r.mark r.position
 
   -- no count is above the number of steps
-  pub walk_room : (row : List ℕ) (most : ℕ) → row ≡ counts → steps + most ≤ most_steps → HasRoom most row
+  pub walk_room : (row : List ℕ) (most : ℕ) → row ≡ counts → steps + most ≤ most_steps → CountsHaveRoom most row
   walk_room row most e l = λ level h.
       let a = walk_levels row e in
       let b = levels_at r.problem r.mark r.position level 0 (omega arith) in

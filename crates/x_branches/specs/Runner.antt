@@ -12,7 +12,7 @@ use Rattle.x_steps.specs.StateValue.{StateValue}
 use Rattle.x_steps.specs.Steps.{Fits, IsBefore, covered_in, next, is_level, is_visit}
 use Rattle.x_steps.specs.Before.{prev}
 use Rattle.x_steps.specs.Run.{steps_between, visits_between, levels}
-use Rattle.x_steps.specs.Machine.{Position}
+use Rattle.x_steps.specs.Machine.{MachineValue}
 use Rattle.x_branches.specs.declared.branch.Branch.{Branch}
 use Rattle.x_branches.specs.Cut.{CutPath, choices}
 use Rattle.x_branches.specs.Branch.{first_of, end_of}
@@ -108,7 +108,7 @@ abbrev pub visit_of : ProblemValue → StateValue → List (List ℕ)
 visit_of p s = if is_visit p s then s.path ∷ [] else []
 
 -- the visit of the state where a machine stands, if it is one
-abbrev pub visit_here : Position → List (List ℕ)
+abbrev pub visit_here : MachineValue → List (List ℕ)
 visit_here m = visit_of m.problem m.state
 
 -- counts for each level, with one more at the level of a state of X2

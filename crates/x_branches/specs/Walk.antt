@@ -13,7 +13,7 @@ use Rattle.x_steps.specs.StateValue.{StateValue}
 use Rattle.x_steps.specs.Steps.{is_visit}
 use Rattle.x_steps.specs.Run.{after, states, visits}
 use Rattle.x_steps.specs.Walk.{visit_told, IsAtCut}
-use Rattle.x_steps.specs.Machine.{Position}
+use Rattle.x_steps.specs.Machine.{MachineValue}
 use Rattle.x_branches.specs.Cut.{CutPath}
 use Rattle.x_branches.specs.Runner.{RunnerValue}
 use Rattle.x_branches.specs.Refusals.{CanAdvance}
@@ -44,7 +44,7 @@ abbrev pub AddsVisit : List (List ℕ) → List (List ℕ) → Event → StateVa
 AddsVisit old new event s = new ≡ old ++ visit_told event s.path
 
 -- the paths visited among the states that a machine leaves with its next n steps
-abbrev pub passed_visits : Position → ℕ → List (List ℕ)
+abbrev pub passed_visits : MachineValue → ℕ → List (List ℕ)
 passed_visits m n = visits m.problem (states m.problem n m.state)
 
 -- a walk of at most `most` steps up to a state of the problem is over, or the next step is a visit's

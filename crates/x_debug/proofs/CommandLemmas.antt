@@ -5,7 +5,7 @@ use Rattle.std.specs.Result.{result_ok}
 use Rattle.std.proofs.lemmas.Bool.{and_parts, and_from}
 use Rattle.std.proofs.lemmas.List.Quantifiers.{position-Some}
 use Rattle.text_lines.specs.Lines.{words_of, without_return}
-use Rattle.text_lines.specs.Numbers.{number_of, is_decimal, value_after}
+use Rattle.text_lines.specs.Numbers.{number_within, is_decimal, value_after}
 use Rattle.text_lines.proofs.ResultLemmas.{chosen}
 use Rattle.cover_problem.specs.Problem.{ProblemValue, is_item, item_named}
 use Rattle.x_texts.specs.declared.breakpoint.Break.{Break}
@@ -23,7 +23,7 @@ use Rattle.x_debug.specs.Commands.{is_command}
 
 -- ---- a breakpoint that was read
 
-at_most : (most n : ℕ) (word : List ℕ) → number_of most word ≡ Some n → nat_le n most ≡ true
+at_most : (most n : ℕ) (word : List ℕ) → number_within most word ≡ Some n → nat_le n most ≡ true
 at_most most n word h = by (chosen (is_decimal word && nat_le (value_after 0 word) most) (Some (value_after 0 word)) None (Some n) h)
   where
     by : (((is_decimal word && nat_le (value_after 0 word) most) ≡ true) × (◌≡◌ {A = Option ℕ} (Some (value_after 0 word)) (Some n))) ⊎ (((is_decimal word && nat_le (value_after 0 word) most) ≡ false) × (◌≡◌ {A = Option ℕ} None (Some n))) → nat_le n most ≡ true
@@ -39,7 +39,7 @@ from_one m n h = by (chosen (nat_lt 0 m) (Some m) None (Some n) h)
 
 one_of : (bound o : ℕ) (word : List ℕ) → option_number bound word ≡ Some o → is_item bound o ≡ true
 one_of bound o word h =
-    let a = and_then_is positive (number_of bound word) o h in
+    let a = and_then_is positive (number_within bound word) o h in
     let b = from_one a.0 o a.2 in
     and_from (nat_lt 0 o) (nat_le o bound) b.1 (subst (λ (k : ℕ). nat_le k bound ≡ true) b.0 (at_most bound a.0 word a.1))
 
@@ -57,7 +57,7 @@ module _ (p : ProblemValue) where
   of_is : (k : Option Kind) (w : List ℕ) (b : Break) → break_of p k w ≡ Some b → is_break p b ≡ true
   of_is None w b h = absurd (none_some b h)
   of_is (Some kinds.Level) w b h =
-      let a = map_is breakpoints.Level (number_of (length p.names) w) b h in
+      let a = map_is breakpoints.Level (number_within (length p.names) w) b h in
       subst (λ (c : Break). is_break p c ≡ true) a.2 (at_most (length p.names) a.0 w a.1)
   of_is (Some kinds.Option) w b h =
       let a = map_is breakpoints.Option (option_number (length p.options) w) b h in
@@ -101,7 +101,7 @@ module _ (p : ProblemValue) where
   counted : (words : List (List ℕ)) (n : ℕ) → count_from words ≡ Some n → nat_lt 0 n ≡ true
   counted words n h =
       let a = and_then_is (option_number 4294967295) (only words) n h in
-      let b = and_then_is positive (number_of 4294967295 a.0) n a.2 in
+      let b = and_then_is positive (number_within 4294967295 a.0) n a.2 in
       (from_one b.0 n b.2).1
 
   -- what was found is asked for more

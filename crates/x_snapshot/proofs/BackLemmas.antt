@@ -4,7 +4,7 @@ use Rattle.std.specs.Prelude.{option_and_then, bytes_eq}
 use Rattle.std.specs.Cmp.Lexicographic.{bytes_decides}
 use Rattle.std.proofs.lemmas.Bool.{and_parts}
 use Rattle.text_lines.specs.Lines.{words_of, is_empty}
-use Rattle.text_lines.specs.Numbers.{number_of}
+use Rattle.text_lines.specs.Numbers.{number_within}
 use Rattle.text_lines.specs.Writing.{spaced, line_text}
 use Rattle.text_lines.specs.Each.{each, ◌>>=◌}
 use Rattle.text_lines.proofs.EachLemmas.{each_none, each_parts}
@@ -94,7 +94,7 @@ keyed_line_back {X} f key form text r h =
 pub count_back : (f : SnapshotFault) (bound n : ℕ) (words : List (List ℕ)) → bound < 2 ^ 64 → count_from f bound words ≡ Ok n → (words ≡ decimal n ∷ []) × (n ≤ bound)
 unfolding count_from
 count_back f bound n words small h =
-    let a = and_then_is (number_of bound) (only words) n (found_is f (option_and_then (number_of bound) (only words)) n h) in
+    let a = and_then_is (number_within bound) (only words) n (found_is f (option_and_then (number_within bound) (only words)) n h) in
     let b = printed_again bound n a.0 small a.2 in
     (only_is words a.0 a.1 ∙ ap (λ w. w ∷ []) b.0, b.1)
 
@@ -108,7 +108,7 @@ positive_is (suc n) m h = step (nat_lt 0 (suc n)) refl h
 
 pub option_back : (bound : ℕ) (word : List ℕ) (o : ℕ) → bound < 2 ^ 64 → option_number bound word ≡ Some o → (word ≡ decimal o) × (0 < o) × (o ≤ bound)
 option_back bound word o small h =
-    let a = and_then_is positive (number_of bound word) o h in
+    let a = and_then_is positive (number_within bound word) o h in
     let b = positive_is a.0 o a.2 in
     let c = printed_again bound a.0 word small a.1 in
     (c.0 ∙ ap decimal b.0, b.1, omega (arith, b.0, c.1))

@@ -3,7 +3,7 @@ use Rattle.std.proofs.Common.{◌≡◌, ◌⊎◌, inl, inr, ℕ, suc, zero, �
 use Rattle.std.specs.Prelude.{bytes_eq}
 use Rattle.std.specs.List.{list_any, list_all}
 use Rattle.std.specs.Cmp.Lexicographic.{bytes_decides}
-use Rattle.text_lines.specs.Numbers.{number_of}
+use Rattle.text_lines.specs.Numbers.{number_within}
 use Rattle.text_lines.specs.Writing.{line_text, text_of}
 use Rattle.text_lines.specs.Each.{◌>>=◌}
 use Rattle.text_lines.proofs.NumberLemmas.{printed_again}
@@ -61,7 +61,7 @@ pub record IsBreakText (p : ProblemValue) (text : List ℕ) (bs : List Break) (r
 module _ (p : ProblemValue) (g : IsProblem p) where
   level_back : (w : List ℕ) (b : Break) → level_from p w ≡ Some b → SaysBreak p (codes "level" ∷ w ∷ []) b
   level_back w b h =
-      let a = map_is breakpoints.Level (number_of (length p.names) w) b h in
+      let a = map_is breakpoints.Level (number_within (length p.names) w) b h in
       let f = few p g in
       let c = printed_again (length p.names) a.0 w (omega (arith, f.0)) a.1 in
       let here : SaysBreak p (codes "level" ∷ w ∷ []) (breakpoints.Level a.0) = (ap (λ x. codes "break" ∷ codes "level" ∷ x ∷ []) c.0, le-leb a.0 (length p.names) c.1) in

@@ -5,7 +5,7 @@ use Rattle.std.specs.List.{list_all}
 use Rattle.std.specs.Cmp.Lexicographic.{bytes_decides}
 use Rattle.std.proofs.lemmas.Bool.{and_parts, and_from, false_from_ne_true}
 use Rattle.text_lines.specs.Lines.{words_of}
-use Rattle.text_lines.specs.Numbers.{number_of}
+use Rattle.text_lines.specs.Numbers.{number_within}
 use Rattle.text_lines.specs.Writing.{is_word, spaced, line_text, text_of, are_words}
 use Rattle.text_lines.specs.Each.{each}
 use Rattle.text_lines.proofs.EachLemmas.{each_step, each_nothing}
@@ -114,14 +114,14 @@ choices_again acc (o ∷ path) h =
 -- *the branch*
 
 -- the number's word isn't a word that is no number
-other_word : (o : ℕ) (w : List ℕ) → is_choice o ≡ true → number_of most_options w ≡ None → bytes_eq (decimal o) w ≡ false
+other_word : (o : ℕ) (w : List ℕ) → is_choice o ≡ true → number_within most_options w ≡ None → bytes_eq (decimal o) w ≡ false
 other_word o w h n = false_from_ne_true (bytes_eq (decimal o) w) (λ e. differ ((bytes_decides (decimal o) w).0 e))
   where
     differ : decimal o ≡ w → ⊥
     differ e =
         let b = choice_bounds o h in
-        let read : number_of most_options (decimal o) ≡ Some o = reads_printed most_options o (omega arith) b.1 in
-        let both : ◌≡◌ {A = Option ℕ} None (Some o) = sym n ∙ ap (number_of most_options) (sym e) ∙ read in
+        let read : number_within most_options (decimal o) ≡ Some o = reads_printed most_options o (omega arith) b.1 in
+        let both : ◌≡◌ {A = Option ℕ} None (Some o) = sym n ∙ ap (number_within most_options) (sym e) ∙ read in
         cc
 
 -- a cut with a choice, or none
@@ -129,7 +129,7 @@ pub record IsWrittenCut (cut : Option (List ℕ)) : Type 0 where
   pub choices : (path : List ℕ) → cut ≡ Some path → list_all is_choice path ≡ true
   pub some : (path : List ℕ) → cut ≡ Some path → 0 < length path
 
-pub cut_again : (none : List ℕ) (cut : Option (List ℕ)) → number_of most_options none ≡ None → IsWrittenCut cut → cut_from none (cut_words none cut) ≡ Ok cut
+pub cut_again : (none : List ℕ) (cut : Option (List ℕ)) → number_within most_options none ≡ None → IsWrittenCut cut → cut_from none (cut_words none cut) ≡ Ok cut
 unfolding cut_from
 cut_again none None n g = rw ((bytes_decides none none).1 refl) refl
 cut_again none (Some []) n g = absurd (let some : 0 < length {A = ℕ} [] = g.some [] refl in omega arith)

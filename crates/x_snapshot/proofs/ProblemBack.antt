@@ -118,9 +118,9 @@ problem_back version text r small h =
     let count : a.0.0 ≡ length (word_lines c.0) = sym l.2 ∙ ap (λ t. length (lines_of t)) (sym d.0) ∙ lines_written c.0 d.1 in
     let words : k.0 ≡ decimal (length (word_lines c.0)) ∷ [] = lines_from_back version a.0.0 k.0 small k.1 ∙ ap (λ n. decimal n ∷ []) count in
     let after : a.0.1 ≡ written c.0 ++ b.0 = l.1 ∙ ap (λ t. t ++ b.0) (sym d.0) in
-    let whole : IsProblemText version text c.0 b.0 = record {
+    let checked_end : IsProblemText version text c.0 b.0 = record {
       text_is = k.2 ∙ ap (λ ws. line_text (codes "problem" ∷ ws) ++ a.0.1) words ∙ ap (λ t. line_text (codes "problem" ∷ decimal (length (word_lines c.0)) ∷ []) ++ t) after;
       problem = d.1;
       in_version = d.2;
     } in
-    subst (λ (v : ProblemValue × List ℕ). IsProblemText version text v.0 v.1) (ok_is (c.0, b.0) r c.2) whole
+    subst (λ (v : ProblemValue × List ℕ). IsProblemText version text v.0 v.1) (ok_is (c.0, b.0) r c.2) checked_end

@@ -28,7 +28,7 @@ use Rattle.x_snapshot.specs.Snapshot.{SnapshotValue, snapshot_with, IsCutIfAny, 
 use Rattle.x_snapshot.specs.Refusals.{IsRefused}
 use Rattle.x_snapshot.specs.Writer.{needs_second, version_of, break_lines, lines_of_breaks, snapshot_text}
 use Rattle.x_texts.specs.Words.{cut_words, state_words}
-use Rattle.x_snapshot.specs.Reader.{keyed_line, header, cut_from, state_from, end_from, problem_in, position_in, breaks_in, breaks_of_version, whole, ended, parts_after, parts_of}
+use Rattle.x_snapshot.specs.Reader.{keyed_line, header, cut_from, state_from, end_from, problem_in, position_in, breaks_in, breaks_of_version, checked_end, ended, parts_after, parts_of}
 use Rattle.x_snapshot.specs.ReadRefusals.{fault_from}
 use Rattle.x_snapshot.proofs.BackLemmas.{some_is, none_some}
 use Rattle.x_snapshot.proofs.WholeBack.{Position, position_text, one_printed, two_printed, joined}
@@ -128,8 +128,8 @@ header_again n (inr e) = rw (e, two_printed) refl
 header_word : (n : ℕ) → n ≤ 2 → list_all is_word (codes "polysnap" ∷ decimal n ∷ []) ≡ true
 header_word n h = number_word n (omega arith)
 
-whole_again : (n : ℕ) (p : ProblemValue) (bs : List Break) → ((n == 2) && not (needs_second p bs)) ≡ false → whole n p bs [] ≡ Ok tt
-unfolding whole
+whole_again : (n : ℕ) (p : ProblemValue) (bs : List Break) → ((n == 2) && not (needs_second p bs)) ≡ false → checked_end n p bs [] ≡ Ok tt
+unfolding checked_end
 whole_again n p bs h = rw h refl
 
 end_again : end_from [] ≡ Ok tt
@@ -139,7 +139,7 @@ end_again = refl
 -- *the whole*
 
 module _ (n : ℕ) (t0 t1 t2 t3 t4 t5 : List ℕ) (p : ProblemValue) (position : Position) (bs : List Break) where
-  chained : keyed_line BadHeader (codes "polysnap") header t0 ≡ Ok (n, t1) → problem_in n t1 ≡ Ok (p, t2) → position_in t2 ≡ Ok (position, t3) → breaks_of_version n p t3 ≡ Ok (bs, t4) → keyed_line BadState (codes "end") end_from t4 ≡ Ok (tt, t5) → whole n p bs t5 ≡ Ok tt → parts_of t0 ≡ Ok (snapshot_with p position.0 position.1 position.2 bs)
+  chained : keyed_line BadHeader (codes "polysnap") header t0 ≡ Ok (n, t1) → problem_in n t1 ≡ Ok (p, t2) → position_in t2 ≡ Ok (position, t3) → breaks_of_version n p t3 ≡ Ok (bs, t4) → keyed_line BadState (codes "end") end_from t4 ≡ Ok (tt, t5) → checked_end n p bs t5 ≡ Ok tt → parts_of t0 ≡ Ok (snapshot_with p position.0 position.1 position.2 bs)
   unfolding parts_of parts_after ended
   chained a b c d e f = rw (a, b, c, d, e, f) refl
 

@@ -15,7 +15,7 @@ use Rattle.x_texts.specs.Breaks.{is_break, are_new, are_breaks}
 use Rattle.x_snapshot.specs.Snapshot.{SnapshotValue, snapshot_with}
 use Rattle.x_snapshot.specs.Writer.{needs_second, version_of, break_lines, lines_of_breaks, snapshot_text}
 use Rattle.x_texts.specs.Words.{cut_words, state_words}
-use Rattle.x_snapshot.specs.Reader.{keyed_line, header, cut_from, state_from, end_from, problem_in, position_in, breaks_of_version, whole, ended, parts_after, parts_of}
+use Rattle.x_snapshot.specs.Reader.{keyed_line, header, cut_from, state_from, end_from, problem_in, position_in, breaks_of_version, checked_end, ended, parts_after, parts_of}
 use Rattle.x_snapshot.proofs.BackLemmas.{keyed_line_back, header_back, cut_back, state_back, end_back}
 use Rattle.x_snapshot.proofs.ProblemBack.{IsProblemText, problem_back}
 use Rattle.x_snapshot.proofs.BreakBack.{AreFine, breaks_back}
@@ -50,8 +50,8 @@ no_bytes : (rest : List ℕ) → nat_lt 0 (length rest) ≡ false → rest ≡ [
 no_bytes [] h = refl
 no_bytes (b ∷ bs) h = absurd (grind (arith, nat_lt))
 
-whole_back : (version : ℕ) (p : ProblemValue) (breaks : List Break) (rest : List ℕ) (u : Unit {0}) → whole version p breaks rest ≡ Ok u → (rest ≡ []) × (((version == 2) && not (needs_second p breaks)) ≡ false)
-unfolding whole
+whole_back : (version : ℕ) (p : ProblemValue) (breaks : List Break) (rest : List ℕ) (u : Unit {0}) → checked_end version p breaks rest ≡ Ok u → (rest ≡ []) × (((version == 2) && not (needs_second p breaks)) ≡ false)
+unfolding checked_end
 whole_back version p breaks rest u h =
     let a = unrefused (nat_lt 0 (length rest)) TrailingBytes (cond ((version == 2) && not (needs_second p breaks)) (Err Spelling) (Ok tt)) u h in
     let b = unrefused ((version == 2) && not (needs_second p breaks)) Spelling (Ok tt) u a.1 in

@@ -11,7 +11,7 @@ use Rattle.std.specs.Prelude.{take, Option, Some, None, option_map, option_and_t
 use Rattle.std.specs.List.{list_any, list_all}
 use Rattle.std.specs.Str.{bytes_eq}
 use Rattle.text_lines.specs.Lines.{words_of, is_newline, is_empty}
-use Rattle.text_lines.specs.Numbers.{is_digit, number_of}
+use Rattle.text_lines.specs.Numbers.{is_digit, number_within}
 use Rattle.text_lines.specs.Writing.{spaced}
 use Rattle.text_lines.specs.Each.{each, ◌>>=◌}
 use Rattle.cover_problem.specs.declared.fault.Fault.{Fault}
@@ -92,7 +92,7 @@ only _ = None
 
 -- the number that is the only word
 unfoldable pub count_from : SnapshotFault → ℕ → List (List ℕ) → Result ℕ SnapshotFault
-count_from fault bound words = found_or fault (option_and_then (number_of bound) (only words))
+count_from fault bound words = found_or fault (option_and_then (number_within bound) (only words))
 
 -- a number that isn't 0
 abbrev pub positive : ℕ → Option ℕ
@@ -100,7 +100,7 @@ positive n = if nat_lt 0 n then Some n else None
 
 -- the number of one of so many options
 abbrev pub option_number : ℕ → List ℕ → Option ℕ
-option_number bound word = option_and_then positive (number_of bound word)
+option_number bound word = option_and_then positive (number_within bound word)
 
 -- a step so many times, up to the first fault
 unfoldable pub repeated : {S F : Type 0} → (S → Result S F) → ℕ → S → Result S F
@@ -246,7 +246,7 @@ end_in text = keyed_line BadState (codes "end") end_from text
 
 -- the breakpoint of a kind, over a problem
 abbrev pub level_from : ProblemValue → List ℕ → Option Break
-level_from p word = option_map breakpoints.Level (number_of (length p.names) word)
+level_from p word = option_map breakpoints.Level (number_within (length p.names) word)
 
 -- the breakpoint at an option of problem p, by the option's number
 abbrev pub option_break_from : ProblemValue → List ℕ → Option Break
@@ -328,8 +328,8 @@ breaks_of_version version p text = if version == 2 then breaks_in p text else Ok
 -- *the whole text*
 
 -- nothing follows, and the second version is needed
-unfoldable pub whole : ℕ → ProblemValue → List Break → List ℕ → Result (Unit {0}) SnapshotFault
-whole version p breaks rest =
+unfoldable pub checked_end : ℕ → ProblemValue → List Break → List ℕ → Result (Unit {0}) SnapshotFault
+checked_end version p breaks rest =
     if nat_lt 0 (length rest) then Err TrailingBytes else
     (if (version == 2) && not (needs_second p breaks) then Err Spelling else Ok tt)
 
@@ -345,7 +345,7 @@ position_in text = do
 unfoldable pub ended : ℕ → ProblemValue → List Break → List ℕ → Result (Unit {0}) SnapshotFault
 ended version p breaks text = do
   end ← end_in text
-  whole version p breaks end.1
+  checked_end version p breaks end.1
 
 -- what a text says after its problem: the cuts, the state and the breakpoints
 unfoldable pub parts_after : ℕ → ProblemValue → List ℕ → Result SnapshotValue SnapshotFault

@@ -93,9 +93,9 @@ fn after_end(text: &[u8]) -> Found<&[u8]>
 }
 
 /// Whether nothing follows, and the second version is needed.
-#[tactic(auto, unfolding(crate::specs::Reader::whole))]
+#[tactic(auto, unfolding(crate::specs::Reader::checked_end))]
 fn check_whole(version: u8, problem: &Problem, breaks: &[Break], rest: &[u8]) -> Found<()>
-    ensures { Gives (λ _. tt) result (spec.whole version problem.now breaks.now rest.now) }
+    ensures { Gives (λ _. tt) result (spec.checked_end version problem.now breaks.now rest.now) }
 {
     // Bytes behind the last line come before the version: an order of faults that the format fixes.
     if !rest.is_empty() {

@@ -19,7 +19,7 @@ use Rattle.x_steps.specs.declared.state.Cursor.TheVariants.{At, Past}
 use Rattle.x_steps.specs.StateValue.{StateValue, at, start}
 use Rattle.x_steps.specs.Steps.{Fits, FitsAt, IsOpen, is_open, item_after, remaining_after, split_last, covered_in, IsBefore}
 use Rattle.x_steps.specs.Before.{prev, prev_at, came_from}
-use Rattle.x_steps.specs.Machine.{Keeps, Position, GoesBack}
+use Rattle.x_steps.specs.Machine.{Keeps, MachineValue, GoesBack}
 use Rattle.x_steps.proofs.Neighbours.{fits_prev, split_last_push}
 use Rattle.x_steps.proofs.RunLemmas.{prev_before}
 use Rattle.x_steps.proofs.MachineLemmas.{keeps_on, mid_is, chosen_last, item_is, retry_at, label_of}
@@ -228,7 +228,7 @@ IsLater X1 = ⊥
 IsLater _ = Unit {0}
 
 -- what a step back says, from the state inside the machine
-pub goes_back : {p : ProblemValue} {s t : StateValue} {old : Position} {l : Label} {table_problem : ProblemValue} {covered : List ℕ} {room : ℕ} → record { problem = p; state = s } ≡ old → old.state.label ≡ l → IsLater l
+pub goes_back : {p : ProblemValue} {s t : StateValue} {old : MachineValue} {l : Label} {table_problem : ProblemValue} {covered : List ℕ} {room : ℕ} → record { problem = p; state = s } ≡ old → old.state.label ≡ l → IsLater l
     → WentBack p (at l s.path s.cursor) t table_problem covered room → GoesBack old (record { problem = p; state = t })
 goes_back {p} {s} {t} {old} {l} e m later w =
     let same : at l s.path s.cursor ≡ s = ap (λ l. at l s.path s.cursor) (sym (label_of e m)) in
@@ -238,7 +238,7 @@ goes_back {p} {s} {t} {old} {l} e m later w =
 
 -- ---- which state came before X5
 
-pub came_before : (m : Position) (o : ℕ) (found : Option ℕ) → m.state.label ≡ X5 → m.state.cursor ≡ At o → found ≡ below o (remaining_after m.problem m.state.path)
+pub came_before : (m : MachineValue) (o : ℕ) (found : Option ℕ) → m.state.label ≡ X5 → m.state.cursor ≡ At o → found ≡ below o (remaining_after m.problem m.state.path)
     → prev m.problem m.state ≡ came_from m.state.path found
 unfolding prev
 came_before m o found at_label at_cursor e = rw (at_label, at_cursor, e) refl
@@ -247,13 +247,13 @@ past_before : (p : ProblemValue) (path : List ℕ) (k : Cursor) → ((o : ℕ) �
 past_before p path (At o) never = absurd (never o refl)
 past_before p path _ never = refl
 
-pub came_last : (m : Position) (found : Option ℕ) → m.state.label ≡ X5 → ((o : ℕ) → m.state.cursor ≡ At o → ⊥) → found ≡ last_of (remaining_after m.problem m.state.path)
+pub came_last : (m : MachineValue) (found : Option ℕ) → m.state.label ≡ X5 → ((o : ℕ) → m.state.cursor ≡ At o → ⊥) → found ≡ last_of (remaining_after m.problem m.state.path)
     → prev m.problem m.state ≡ came_from m.state.path found
 unfolding prev
 came_last m found at_label never e = rw (at_label, e) (past_before m.problem m.state.path m.state.cursor never)
 
 -- the same, of the state inside the machine
-pub came_in : {p : ProblemValue} {s : StateValue} {old : Position} {before found : Option ℕ} → record { problem = p; state = s } ≡ old → old.state.label ≡ X5 → prev old.problem old.state ≡ came_from old.state.path before
+pub came_in : {p : ProblemValue} {s : StateValue} {old : MachineValue} {before found : Option ℕ} → record { problem = p; state = s } ≡ old → old.state.label ≡ X5 → prev old.problem old.state ≡ came_from old.state.path before
     → before ≡ found → prev p (at X5 s.path s.cursor) ≡ came_from s.path found
 came_in {p} {s} {old} {before} {found} e m came same =
     let inner : prev p s ≡ came_from s.path before = subst (λ v. prev v.problem v.state ≡ came_from v.state.path before) (sym e) came in

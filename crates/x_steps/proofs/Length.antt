@@ -11,7 +11,7 @@ use Rattle.x_steps.specs.declared.state.Cursor.{Cursor}
 use Rattle.x_steps.specs.declared.state.Cursor.TheVariants as cursor
 use Rattle.x_steps.specs.declared.state.Cursor.TheVariants.{At, Past}
 use Rattle.x_steps.specs.StateValue.{StateValue, at, start, done}
-use Rattle.x_steps.specs.Steps.{is_open, IsOpen, remaining_after, split_last, cursor_of, FitsAt, Fits, taken_back, next_at, next, is_entry, is_visit}
+use Rattle.x_steps.specs.Steps.{is_open, IsOpen, remaining_after, split_last, next_cursor, FitsAt, Fits, taken_back, next_at, next, is_entry, is_visit}
 use Rattle.x_steps.specs.Run.{after, states, visits, entries, steps_between}
 use Rattle.x_steps.proofs.Neighbours.{split_last_push, split_last_cases, open_cases}
 use Rattle.x_steps.proofs.RunLemmas.{start_fits, after_fits, run_leads}
@@ -42,14 +42,14 @@ balance p X2 path cursor.None f g = step (open_cases p path)
 balance p X3 path cursor.None f g = omega arith
 balance p X4 path cursor.None f g = look (above 0 (remaining_after p path))
   where
-    look : (a : Option ℕ) → Balance p (at X4 path cursor.None) (at X5 path (cursor_of a))
+    look : (a : Option ℕ) → Balance p (at X4 path cursor.None) (at X5 path (next_cursor a))
     look prelude.None = omega arith
     look (Some o) = omega arith
 balance p X5 path (At o) f g = let e = length-append path (o ∷ []) in omega arith
 balance p X5 path Past f g = omega arith
 balance p X6 path (At o) f g = look (above o (remaining_after p path))
   where
-    look : (a : Option ℕ) → Balance p (at X6 path (At o)) (at X5 path (cursor_of a))
+    look : (a : Option ℕ) → Balance p (at X6 path (At o)) (at X5 path (next_cursor a))
     look prelude.None = omega arith
     look (Some o) = omega arith
 balance p X7 path cursor.None f g = omega arith

@@ -18,8 +18,8 @@ use Rattle.x_steps.specs.declared.state.Cursor.TheVariants.{At, Past}
 use Rattle.x_steps.specs.declared.event.Event.{Event}
 use Rattle.x_steps.specs.declared.event.Event.TheVariants.{Moved, Visited, Finished}
 use Rattle.x_steps.specs.StateValue.{StateValue, at}
-use Rattle.x_steps.specs.Steps.{Fits, FitsAt, IsOpen, is_open, item_after, remaining_after, cursor_of, split_last, covered_in, next, event_of}
-use Rattle.x_steps.specs.Machine.{Keeps, Position, Goes}
+use Rattle.x_steps.specs.Steps.{Fits, FitsAt, IsOpen, is_open, item_after, remaining_after, next_cursor, split_last, covered_in, next, event_of}
+use Rattle.x_steps.specs.Machine.{Keeps, MachineValue, Goes}
 use Rattle.x_steps.proofs.Neighbours.{fits_next, split_last_push}
 
 -- at another state that fits the machine keeps what it has to, if its table stands for what is covered there
@@ -125,7 +125,7 @@ module _ (p : ProblemValue) (path : List ℕ) (at_cursor : Cursor) (table_proble
       subst (IsUncovered table_problem covered) (sym e) (active_item table_problem covered (choice table_problem covered) sound (choice_active table_problem covered (opens_ready k)))
 
   pub opens : (item : ℕ) (new_problem : ProblemValue) (new_covered : List ℕ) (first : Option ℕ) (new_cursor : Cursor) → item ≡ choice table_problem covered → new_problem ≡ table_problem
-      → new_covered ≡ covered ++ item ∷ [] → first ≡ above 0 (list_of new_problem new_covered item) → new_cursor ≡ cursor_of first → Here X4
+      → new_covered ≡ covered ++ item ∷ [] → first ≡ above 0 (list_of new_problem new_covered item) → new_cursor ≡ next_cursor first → Here X4
       → Moves X4 (at X5 path new_cursor) Moved new_problem new_covered
   unfolding next event_of covered_in
   opens item new_problem new_covered first new_cursor e same list found to k =
@@ -135,7 +135,7 @@ module _ (p : ProblemValue) (path : List ℕ) (at_cursor : Cursor) (table_proble
       let options : list_of new_problem new_covered item ≡ remaining_after p path =
       ap (λ q. list_of q new_covered item) (same ∙ k.same) ∙ ap (λ c. list_of p c item) whole ∙ ap (λ i. list_of p (covered_by p path ++ item_after p path ∷ []) i) now
       ∙ list_covered p (covered_by p path) (item_after p path) [] free in
-      let reached : new_cursor ≡ cursor_of (above 0 (remaining_after p path)) = to ∙ ap cursor_of (found ∙ ap (above 0) options) in
+      let reached : new_cursor ≡ next_cursor (above 0 (remaining_after p path)) = to ∙ ap next_cursor (found ∙ ap (above 0) options) in
       went p _ _ _ table_problem covered room _ _ _ k same (omega arith) (ap (λ c. at X5 path c) reached) refl whole
 
   -- X5: the chosen item is covered last
@@ -232,10 +232,10 @@ module _ (p : ProblemValue) (path : List ℕ) (at_cursor : Cursor) (table_proble
       mid_has item new_problem w same k = subst (λ l. has l o ≡ true) (sym (mid_list item new_problem w same k)) (retry_at k).1.left
 
       pub retries : (item : ℕ) (new_problem : ProblemValue) (found : Option ℕ) (new_cursor : Cursor) → (front : List ℕ) × (mid ≡ front ++ item ∷ []) → new_problem ≡ table_problem
-          → found ≡ above o (list_of new_problem mid item) → new_cursor ≡ cursor_of found → Here X6 → Moves X6 (at X5 path new_cursor) Moved new_problem mid
+          → found ≡ above o (list_of new_problem mid item) → new_cursor ≡ next_cursor found → Here X6 → Moves X6 (at X5 path new_cursor) Moved new_problem mid
       unfolding next event_of covered_in
       retries item new_problem found new_cursor w same e to k =
-          let reached : new_cursor ≡ cursor_of (above o (remaining_after p path)) = to ∙ ap cursor_of (e ∙ ap (above o) (mid_list item new_problem w same k)) in
+          let reached : new_cursor ≡ next_cursor (above o (remaining_after p path)) = to ∙ ap next_cursor (e ∙ ap (above o) (mid_list item new_problem w same k)) in
           went p _ _ _ table_problem covered room _ _ _ k same (omega arith) (rw is_at (ap (λ c. at X5 path c) reached)) refl (mid_is k)
 
   -- X7
@@ -275,23 +275,23 @@ module _ (p : ProblemValue) (s : StateValue) (table_problem : ProblemValue) (cov
   from_label l e = subst (λ l. Keeps p (at l s.path s.cursor) table_problem covered room) e k
 
 -- the label and the cursor that a contract tells are those of the state inside
-pub label_of : {p : ProblemValue} {s : StateValue} {old : Position} {l : Label} → record { problem = p; state = s } ≡ old → old.state.label ≡ l → s.label ≡ l
+pub label_of : {p : ProblemValue} {s : StateValue} {old : MachineValue} {l : Label} → record { problem = p; state = s } ≡ old → old.state.label ≡ l → s.label ≡ l
 label_of e h = ap (λ v. v.state.label) e ∙ h
 
-pub cursor_in : {p : ProblemValue} {s : StateValue} {old : Position} {k : Cursor} → record { problem = p; state = s } ≡ old → old.state.cursor ≡ k → s.cursor ≡ k
+pub cursor_in : {p : ProblemValue} {s : StateValue} {old : MachineValue} {k : Cursor} → record { problem = p; state = s } ≡ old → old.state.cursor ≡ k → s.cursor ≡ k
 cursor_in e h = ap (λ v. v.state.cursor) e ∙ h
 
-pub kept_at : {p : ProblemValue} {s : StateValue} {old : Position} {l : Label} {table_problem : ProblemValue} {covered : List ℕ} {room : ℕ} → record { problem = p; state = s } ≡ old → old.state.label ≡ l
+pub kept_at : {p : ProblemValue} {s : StateValue} {old : MachineValue} {l : Label} {table_problem : ProblemValue} {covered : List ℕ} {room : ℕ} → record { problem = p; state = s } ≡ old → old.state.label ≡ l
     → Keeps p s table_problem covered room → Keeps p (at l s.path s.cursor) table_problem covered room
 kept_at {p} {s} {old} {l} {table_problem} {covered} {room} e m k = from_label p s table_problem covered room k l (label_of e m)
 
 -- the item that is chosen at X4, for the table and after the path
-pub chosen_for : {p : ProblemValue} {s : StateValue} {old : Position} {table_problem : ProblemValue} {covered : List ℕ} {room : ℕ} → record { problem = p; state = s } ≡ old → old.state.label ≡ X4
+pub chosen_for : {p : ProblemValue} {s : StateValue} {old : MachineValue} {table_problem : ProblemValue} {covered : List ℕ} {room : ℕ} → record { problem = p; state = s } ≡ old → old.state.label ≡ X4
     → Keeps p s table_problem covered room → choice table_problem covered ≡ item_after old.problem old.state.path
 chosen_for e m k = chosen_is _ _ _ _ _ _ (kept_at e m k) ∙ ap (λ v. item_after v.problem v.state.path) e
 
 -- what a machine's step says, from the state inside it
-pub goes : {p : ProblemValue} {s t : StateValue} {event : Event} {old : Position} {l : Label} {table_problem : ProblemValue} {covered : List ℕ} {room : ℕ} → record { problem = p; state = s } ≡ old → old.state.label ≡ l
+pub goes : {p : ProblemValue} {s t : StateValue} {event : Event} {old : MachineValue} {l : Label} {table_problem : ProblemValue} {covered : List ℕ} {room : ℕ} → record { problem = p; state = s } ≡ old → old.state.label ≡ l
     → Went p (at l s.path s.cursor) t event table_problem covered room → Goes old (record { problem = p; state = t }) event
 goes {p} {s} {t} {event} {old} {l} e m w =
     let same : at l s.path s.cursor ≡ s = ap (λ l. at l s.path s.cursor) (sym (label_of e m)) in

@@ -18,7 +18,7 @@ use Rattle.x_steps.specs.declared.state.Cursor.{Cursor}
 use Rattle.x_steps.specs.declared.state.Cursor.TheVariants as cursor
 use Rattle.x_steps.specs.declared.state.Cursor.TheVariants.{At, Past}
 use Rattle.x_steps.specs.StateValue.{StateValue, at}
-use Rattle.x_steps.specs.Steps.{is_open, IsOpen, item_after, remaining_after, with_first, split_last, cursor_of, FitsAt, Fits, taken_back, next_at, next}
+use Rattle.x_steps.specs.Steps.{is_open, IsOpen, item_after, remaining_after, with_first, split_last, next_cursor, FitsAt, Fits, taken_back, next_at, next}
 use Rattle.x_steps.specs.Before.{entered_from, came_from, prev_at, prev}
 
 pub split_last_push : (path : List ℕ) (o : ℕ) → split_last (path ++ o ∷ []) ≡ Some (path, o)
@@ -64,14 +64,14 @@ fits_next_at p X2 path cursor.None f = step (open_cases p path)
 fits_next_at p X3 path cursor.None f = f
 fits_next_at p X4 path cursor.None f = look (above 0 (remaining_after p path)) refl
   where
-    look : (a : Option ℕ) → above 0 (remaining_after p path) ≡ a → Fits p (at X5 path (cursor_of a))
+    look : (a : Option ℕ) → above 0 (remaining_after p path) ≡ a → Fits p (at X5 path (next_cursor a))
     look prelude.None e = f
     look (Some o) e = (f.0, record { active = f.1; left = (above_is 0 1 (remaining_after p path) o (left_rises p path) e).member })
 fits_next_at p X5 path (At o) f = valid_push p path o f.0 f.1
 fits_next_at p X5 path Past f = f
 fits_next_at p X6 path (At o) f = look (above o (remaining_after p path)) refl
   where
-    look : (a : Option ℕ) → above o (remaining_after p path) ≡ a → Fits p (at X5 path (cursor_of a))
+    look : (a : Option ℕ) → above o (remaining_after p path) ≡ a → Fits p (at X5 path (next_cursor a))
     look prelude.None e = (f.0, f.1.active)
     look (Some k) e = (f.0, record { active = f.1.active; left = (above_is o 1 (remaining_after p path) k (left_rises p path) e).member })
 fits_next_at p X7 path cursor.None f = f.0
@@ -135,7 +135,7 @@ prev_next_at p X2 path cursor.None f g = step (open_cases p path)
 prev_next_at p X3 path cursor.None f g = refl
 prev_next_at p X4 path cursor.None f g = look (above 0 (remaining_after p path)) refl
   where
-    look : (a : Option ℕ) → above 0 (remaining_after p path) ≡ a → prev p (at X5 path (cursor_of a)) ≡ at X4 path cursor.None
+    look : (a : Option ℕ) → above 0 (remaining_after p path) ≡ a → prev p (at X5 path (next_cursor a)) ≡ at X4 path cursor.None
     look prelude.None e = rw (last_first 0 (remaining_after p path) (left_rises p path) e) refl
     look (Some k) e = let a = above_is 0 1 (remaining_after p path) k (left_rises p path) e in
         rw (below_none_from k 1 (remaining_after p path) (left_rises p path) (λ j i. a.least j i (rises_member 1 j (remaining_after p path) (left_rises p path) i))) refl
@@ -143,7 +143,7 @@ prev_next_at p X5 path (At o) f g = rw (split_last_push path o) refl
 prev_next_at p X5 path Past f g = refl
 prev_next_at p X6 path (At o) f g = look (above o (remaining_after p path)) refl
   where
-    look : (a : Option ℕ) → above o (remaining_after p path) ≡ a → prev p (at X5 path (cursor_of a)) ≡ at X6 path (At o)
+    look : (a : Option ℕ) → above o (remaining_after p path) ≡ a → prev p (at X5 path (next_cursor a)) ≡ at X6 path (At o)
     look prelude.None e = rw (last_above o 1 (remaining_after p path) (left_rises p path) f.1.left e) refl
     look (Some k) e = rw (below_above o 1 k (remaining_after p path) (left_rises p path) f.1.left e) refl
 prev_next_at p X7 path cursor.None f g = rw (open_is p path f.1) refl

@@ -15,7 +15,7 @@ use Rattle.x_steps.specs.declared.state.Cursor.{Cursor}
 use Rattle.x_steps.specs.declared.state.Cursor.TheVariants as cursor
 use Rattle.x_steps.specs.declared.state.Cursor.TheVariants.{At, Past}
 use Rattle.x_steps.specs.StateValue.{StateValue, at}
-use Rattle.x_steps.specs.Steps.{is_open, IsOpen, remaining_after, split_last, cursor_of, FitsAt, Fits, taken_back, next_at, next}
+use Rattle.x_steps.specs.Steps.{is_open, IsOpen, remaining_after, split_last, next_cursor, FitsAt, Fits, taken_back, next_at, next}
 use Rattle.x_steps.specs.Rank.{number, rank}
 use Rattle.x_steps.proofs.Neighbours.{split_last_push, split_last_cases, open_cases, left_rises}
 
@@ -72,14 +72,14 @@ rank_next_at p X2 path cursor.None f g = step (open_cases p path)
 rank_next_at p X3 path cursor.None f g = same_path p path 2 3 f.0 (omega arith)
 rank_next_at p X4 path cursor.None f g = look (above 0 (remaining_after p path)) refl
   where
-    look : (a : Option ℕ) → above 0 (remaining_after p path) ≡ a → rank p (at X4 path cursor.None) < rank p (at X5 path (cursor_of a))
+    look : (a : Option ℕ) → above 0 (remaining_after p path) ≡ a → rank p (at X4 path cursor.None) < rank p (at X5 path (next_cursor a))
     look prelude.None e = same_path p path 3 (4 * length p.options + 5) f.0 (omega arith)
     look (Some k) e = let a = above_is 0 1 (remaining_after p path) k (left_rises p path) e in same_path p path 3 (4 * k + 1) f.0 (omega (arith, a.more))
 rank_next_at p X5 path (At o) f g = rw (deeper path o 1) (number_less (4 * length p.options + 9) (suc p.primary) (map (λ o. 4 * o + 2) path) (4 * o + 1) (4 * o + 2) [] (1 ∷ []) (short p path f.0) (omega arith) (omega arith) tt)
 rank_next_at p X5 path Past f g = same_path p path (4 * length p.options + 5) (4 * length p.options + 6) f.0 (omega arith)
 rank_next_at p X6 path (At o) f g = look (above o (remaining_after p path)) refl
   where
-    look : (a : Option ℕ) → above o (remaining_after p path) ≡ a → rank p (at X6 path (At o)) < rank p (at X5 path (cursor_of a))
+    look : (a : Option ℕ) → above o (remaining_after p path) ≡ a → rank p (at X6 path (At o)) < rank p (at X5 path (next_cursor a))
     look prelude.None e = let t = choice_has p (covered_by p path) o f.1 in same_path p path (4 * o + 3) (4 * length p.options + 5) f.0 (omega (arith, t.within))
     look (Some k) e = let a = above_is o 1 (remaining_after p path) k (left_rises p path) e in same_path p path (4 * o + 3) (4 * k + 1) f.0 (omega (arith, a.more))
 rank_next_at p X7 path cursor.None f g = same_path p path (4 * length p.options + 6) (4 * length p.options + 7) f.0 (omega arith)

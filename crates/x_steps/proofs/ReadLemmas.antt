@@ -13,7 +13,7 @@ use Rattle.x_steps.specs.declared.state.Cursor.TheVariants as cursor
 use Rattle.x_steps.specs.declared.state.Cursor.TheVariants.{At}
 use Rattle.x_steps.specs.StateValue.{StateValue}
 use Rattle.x_steps.specs.Steps.{FitsAt, IsOpen, item_after, covered_at, covered_in, is_level, is_visit}
-use Rattle.x_steps.specs.Machine.{Keeps, Position, is_chosen, chosen_item, chosen_in}
+use Rattle.x_steps.specs.Machine.{Keeps, MachineValue, is_chosen, chosen_item, chosen_in}
 use Rattle.x_steps.proofs.MachineLemmas.{from_label, chosen_is, last_at_X7, taken_at, others_count, retry_option_in, opens_ready, some_at_X7, open_at_X4, some_chosen, item_is}
 use Rattle.x_steps.proofs.BackLemmas.{open_at_X5}
 
@@ -135,5 +135,5 @@ unfolding chosen_in
 row_none p s e = rw (← e) refl
 
 -- the chosen item of the state inside the machine
-pub chosen_inside : (p : ProblemValue) (s : StateValue) (now : Position) (found : Option ℕ) → record { problem = p; state = s } ≡ now → found ≡ chosen_item now.problem now.state → found ≡ chosen_item p s
+pub chosen_inside : (p : ProblemValue) (s : StateValue) (now : MachineValue) (found : Option ℕ) → record { problem = p; state = s } ≡ now → found ≡ chosen_item now.problem now.state → found ≡ chosen_item p s
 chosen_inside p s now found e f = f ∙ ap (λ v. chosen_item v.problem v.state) (sym e)

@@ -14,7 +14,7 @@ use Rattle.x_steps.specs.declared.event.Event.TheVariants.{Moved, Visited}
 use Rattle.x_steps.specs.StateValue.{StateValue, at}
 use Rattle.x_steps.specs.Steps.{Fits, FitsAt, next, event_of, event_at, is_level, is_open, split_last, taken_back}
 use Rattle.x_steps.specs.Run.{after}
-use Rattle.x_steps.specs.Machine.{Position, Goes, Keeps}
+use Rattle.x_steps.specs.Machine.{MachineValue, Goes, Keeps}
 use Rattle.x_steps.specs.Walk.{IsWalk, IsRound}
 use Rattle.x_steps.proofs.RunLemmas.{after_add}
 use Rattle.x_steps.proofs.WalkLemmas.{none_walked, walked_other, walked_level, walked_join}
@@ -84,7 +84,7 @@ level_within p s sound f e = level_fits p s.path s.cursor sound (subst (λ l. Fi
 
 -- the same of a machine, for counts of all levels
 pub level_counted : (q : ProblemValue) (s : StateValue) (table_problem : ProblemValue) (covered : List ℕ) (room : ℕ) → Keeps q s table_problem covered room
-    → (m : Position) → record { problem = q; state = s } ≡ m → (p : ProblemValue) → m.problem ≡ p → m.state.label ≡ X2 → (counts : List ℕ) → length counts ≡ length p.names + 1 → length m.state.path < length counts
+    → (m : MachineValue) → record { problem = q; state = s } ≡ m → (p : ProblemValue) → m.problem ≡ p → m.state.label ≡ X2 → (counts : List ℕ) → length counts ≡ length p.names + 1 → length m.state.path < length counts
 level_counted q s table_problem covered room k m e p same label counts levels =
     let below = level_within q s k.sound k.fit (ap (λ v. v.state.label) e ∙ label) in
     let names = ap (λ v. length v.problem.names) e ∙ ap (λ v. length v.names) same in
@@ -92,7 +92,7 @@ level_counted q s table_problem covered room k m e p same label counts levels =
 
 -- ---- one step of a machine
 
-module _ {old new : Position} {event : Event} (g : Goes old new event) where
+module _ {old new : MachineValue} {event : Event} (g : Goes old new event) where
   pub takes_to_X2 : {o : ℕ} → old.state.label ≡ X5 → old.state.cursor ≡ At o → new.state.label ≡ X2
   takes_to_X2 {o} e k = ap (λ s. s.label) g.state ∙ X5_to_X2 old.problem old.state o e k
 
@@ -156,7 +156,7 @@ passes_none p s i l m h = absurd (omega arith)
 pub more_room : (p : ProblemValue) (few most : ℕ) (s t : StateValue) (a b : List ℕ) (n : ℕ) (event : Event) → few ≤ most → IsRound p few s t a b n event → IsRound p most s t a b n event
 more_room p few most s t a b n event l r = let w = r.within in record { walk = r.walk; some = r.some; within = omega arith; passes = r.passes }
 
-module _ {old new : Position} {event : Event} (g : Goes old new event) (counts : List ℕ) where
+module _ {old new : MachineValue} {event : Event} (g : Goes old new event) (counts : List ℕ) where
   pub one_other : (old.state.label ≡ Done → ⊥) → is_level old.state.label ≡ false → IsRound old.problem 1 old.state new.state counts counts 1 event
   one_other goes_on other = record {
     walk = goes_other g old.problem refl old.state counts counts 0 (none_walked old.problem old.state counts) goes_on other;
@@ -172,7 +172,7 @@ module _ {old new : Position} {event : Event} (g : Goes old new event) (counts :
 
 -- ---- X5 at an option: it is taken
 
-module _ {m0 m1 m2 : Position} {e1 e2 : Event} (g1 : Goes m0 m1 e1) (g2 : Goes m1 m2 e2) (counts : List ℕ)
+module _ {m0 m1 m2 : MachineValue} {e1 e2 : Event} (g1 : Goes m0 m1 e1) (g2 : Goes m1 m2 e2) (counts : List ℕ)
     {o : ℕ} (label : m0.state.label ≡ X5) (at_option : m0.state.cursor ≡ At o) (level : length m1.state.path < length counts) where
   abbrev counted : List ℕ
   counted = slice_set counts (length m1.state.path) (slice_index counts (length m1.state.path) + 1)
@@ -180,7 +180,7 @@ module _ {m0 m1 m2 : Position} {e1 e2 : Event} (g1 : Goes m0 m1 e1) (g2 : Goes m
   pub two_steps : IsRound m0.problem 4 m0.state m2.state counts counted 2 e2
   two_steps = round_level g2 m0.problem g1.problem m0.state counts counts 1 4 (takes_to_X2 g1 label at_option) level (omega arith) (from_X5 g1 counts label)
 
-  module _ {m3 m4 : Position} {e3 e4 : Event} (g3 : Goes m2 m3 e3) (g4 : Goes m3 m4 e4) (moved : e2 ≡ Moved) where
+  module _ {m3 m4 : MachineValue} {e3 e4 : Event} (g3 : Goes m2 m3 e3) (g4 : Goes m3 m4 e4) (moved : e2 ≡ Moved) where
     at_X3 : m2.state.label ≡ X3
     at_X3 = enters_to_X3 g2 (takes_to_X2 g1 label at_option) moved
 
@@ -196,11 +196,11 @@ module _ {m0 m1 m2 : Position} {e1 e2 : Event} (g1 : Goes m0 m1 e1) (g2 : Goes m
 
 -- ---- X8: the last choice is taken back
 
-module _ {m0 m1 : Position} {e1 : Event} (g1 : Goes m0 m1 e1) (counts : List ℕ) (label : m0.state.label ≡ X8) where
+module _ {m0 m1 : MachineValue} {e1 : Event} (g1 : Goes m0 m1 e1) (counts : List ℕ) (label : m0.state.label ≡ X8) where
   pub one_back : IsRound m0.problem 2 m0.state m1.state counts counts 1 e1
   one_back = more_room m0.problem 1 2 m0.state m1.state counts counts 1 e1 (omega arith) (one_other g1 counts (λ d. let x : X8 ≡ Done = sym label ∙ d in absurd (cc)) (ap is_level label))
 
-  module _ {m2 : Position} {e2 : Event} (g2 : Goes m1 m2 e2) {o : ℕ} (at_option : m1.state.cursor ≡ At o) where
+  module _ {m2 : MachineValue} {e2 : Event} (g2 : Goes m1 m2 e2) {o : ℕ} (at_option : m1.state.cursor ≡ At o) where
     pub two_back : IsRound m0.problem 2 m0.state m2.state counts counts 2 e2
     two_back =
         round_at g2 m0.problem g1.problem m0.state counts counts 1 2 X6 (leaves_to_X6 g1 label at_option) (λ d. absurd (cc)) (λ d. absurd (cc)) refl (omega arith)
@@ -208,7 +208,7 @@ module _ {m0 m1 : Position} {e1 : Event} (g1 : Goes m0 m1 e1) (counts : List ℕ
 
 -- ---- X5 past the last option: the item is closed, and a round from X8 goes on
 
-module _ {m0 m1 m2 : Position} {e1 e2 : Event} (g1 : Goes m0 m1 e1) (g2 : Goes m1 m2 e2) (label : m0.state.label ≡ X5) (past : m0.state.cursor ≡ Past) where
+module _ {m0 m1 m2 : MachineValue} {e1 e2 : Event} (g1 : Goes m0 m1 e1) (g2 : Goes m1 m2 e2) (label : m0.state.label ≡ X5) (past : m0.state.cursor ≡ Past) where
   at_X7 : m1.state.label ≡ X7
   at_X7 = gives_up_to_X7 g1 label past
 

@@ -14,9 +14,9 @@ use Rattle.x_steps.specs.declared.event.Event.{Event}
 use Rattle.x_steps.specs.declared.event.Event.TheVariants.{Moved}
 use Rattle.x_steps.specs.StateValue.{StateValue, at}
 use Rattle.x_steps.specs.Steps.{next, next_at, event_of, event_at, is_level, is_open}
-use Rattle.x_steps.specs.Machine.{Position}
+use Rattle.x_steps.specs.Machine.{MachineValue}
 use Rattle.x_steps.specs.Run.{after, states, level_count, ReachesIn}
-use Rattle.x_steps.specs.Walk.{last_event, AreCounted, HasRoom, IsWalk, IsRound, IsAtCut}
+use Rattle.x_steps.specs.Walk.{last_event, AreCounted, CountsHaveRoom, IsWalk, IsRound, IsAtCut}
 use Rattle.x_steps.proofs.RunLemmas.{after_add, leads_none, leads_push, leads_join}
 use Rattle.x_steps.proofs.BetweenLemmas.{states_join, length-states, level_count_push, level_count_join}
 
@@ -62,7 +62,7 @@ counted_level a b ss t v e w = record {
 }
 
 -- what fits stays, less one for each state
-pub room_left : (p : ProblemValue) (s : StateValue) (a b : List ℕ) (most n : ℕ) → AreCounted a b (states p n s) → n ≤ most → HasRoom most a → HasRoom (most - n) b
+pub room_left : (p : ProblemValue) (s : StateValue) (a b : List ℕ) (most n : ℕ) → AreCounted a b (states p n s) → n ≤ most → CountsHaveRoom most a → CountsHaveRoom (most - n) b
 room_left p s a b most n v l r = λ level h.
     let same = v.levels in
     let x = v.each level (omega arith) in
@@ -123,7 +123,7 @@ module _ (p : ProblemValue) (s t : StateValue) (a b : List ℕ) (n : ℕ) (walk 
 -- ---- a loop of walks
 
 -- the machine m walked n steps from s, within what is allowed, and came by no state at which to stop
-pub record Walks (p : ProblemValue) (most : ℕ) (cut : List ℕ) (m : Position) (s : StateValue) (a b : List ℕ) (n : ℕ) (event : Event) : Type 0 where
+pub record Walks (p : ProblemValue) (most : ℕ) (cut : List ℕ) (m : MachineValue) (s : StateValue) (a b : List ℕ) (n : ℕ) (event : Event) : Type 0 where
   pub same : m.problem ≡ p
   pub walk : IsWalk p s m.state a b n event
   pub within : n ≤ most
@@ -143,7 +143,7 @@ moves_on p X8 [] k still e d = absurd (cc)
 moves_on p X8 (x ∷ xs) k still e d = absurd (cc)
 moves_on p _ path _ still e d = absurd (cc)
 
-module _ (p : ProblemValue) (most : ℕ) (cut : List ℕ) (m : Position) (s : StateValue) (a b : List ℕ) (n : ℕ) (event : Event) (w : Walks p most cut m s a b n event) where
+module _ (p : ProblemValue) (most : ℕ) (cut : List ℕ) (m : MachineValue) (s : StateValue) (a b : List ℕ) (n : ℕ) (event : Event) (w : Walks p most cut m s a b n event) where
   pub walks_open : (s.label ≡ Done → ⊥) → event ≡ Moved → m.state.label ≡ Done → ⊥
   unfolding next event_of
   walks_open first e d = by_count n w.walk.reaches (sym w.walk.tells ∙ e)
@@ -152,11 +152,11 @@ module _ (p : ProblemValue) (most : ℕ) (cut : List ℕ) (m : Position) (s : St
       by_count zero r t = first (ap (λ u. u.label) r.ends ∙ d)
       by_count (suc n) r t = let u = after p n s in moves_on p u.label u.path u.cursor (r.goes_on n (omega arith)) t (ap (λ v. v.label) r.ends ∙ d)
 
-  pub walks_room : HasRoom most a → HasRoom (most - n) b
+  pub walks_room : CountsHaveRoom most a → CountsHaveRoom (most - n) b
   walks_room r = room_left p s a b most n w.walk.counted w.within r
 
   -- one round more
-  pub walks_on : (q : ProblemValue) (new : Position) (c : List ℕ) (k : ℕ) (told : Event) → q ≡ m.problem → new.problem ≡ q → event ≡ Moved → (IsAtCut m.state cut → ⊥)
+  pub walks_on : (q : ProblemValue) (new : MachineValue) (c : List ℕ) (k : ℕ) (told : Event) → q ≡ m.problem → new.problem ≡ q → event ≡ Moved → (IsAtCut m.state cut → ⊥)
       → IsRound q (most - n) m.state new.state b c k told → Walks p most cut new s a c (n + k) told
   walks_on q new c k told e same moved free round = record {
     same = same ∙ old;
@@ -180,7 +180,7 @@ module _ (p : ProblemValue) (most : ℕ) (cut : List ℕ) (m : Position) (s : St
           here.passes (i - n) (omega arith) (omega arith) (ap (λ u. u.label) later ∙ at_cut.label)
 
 -- a row of zeros has room
-pub zeros_room : (n most : ℕ) → most < 2 ^ 32 → HasRoom most (replicate n 0)
+pub zeros_room : (n most : ℕ) → most < 2 ^ 32 → CountsHaveRoom most (replicate n 0)
 zeros_room n most l = λ level h.
     let size : length (replicate n 0) ≡ n = length-replicate n 0 in
     let zero : slice_index (replicate n 0) level ≡ 0 = get_or-replicate n level 0 0 (subst (λ k. level < k) size h) in omega arith

@@ -12,7 +12,7 @@ use Rattle.x_steps.specs.Steps.{Fits, item_after, covered_in, next, event_of, Is
 use Rattle.x_steps.specs.Before.{prev}
 
 -- a problem, and where its search stands
-pub record Position : Type 0 where
+pub record MachineValue : Type 0 where
   pub problem : ProblemValue
   pub state : StateValue
 
@@ -25,29 +25,29 @@ pub record Keeps (p : ProblemValue) (s : StateValue) (table_problem : ProblemVal
   pub path_fits : length p.names ≤ room
 
 -- the machine is at this step
-abbrev pub IsAt : Position → Label → Type 0
+abbrev pub IsAt : MachineValue → Label → Type 0
 IsAt m label = m.state.label ≡ label
 
 -- what is covered where the machine stands
-abbrev pub covered_items : Position → List ℕ
+abbrev pub covered_items : MachineValue → List ℕ
 covered_items m = covered_in m.problem m.state
 
 -- the state before the machine's
-abbrev pub state_before : Position → StateValue
+abbrev pub state_before : MachineValue → StateValue
 state_before m = prev m.problem m.state
 
 -- the item that is chosen after the machine's path
-abbrev pub item_to_choose : Position → ℕ
+abbrev pub item_to_choose : MachineValue → ℕ
 item_to_choose m = item_after m.problem m.state.path
 
 -- one step of the machine, and what it tells
-pub record Goes (old new : Position) (event : Event) : Type 0 where
+pub record Goes (old new : MachineValue) (event : Event) : Type 0 where
   pub problem : new.problem ≡ old.problem
   pub state : new.state ≡ next old.problem old.state
   pub tells : event ≡ event_of old.problem old.state
 
 -- one step back, to the one state before
-pub record GoesBack (old new : Position) : Type 0 where
+pub record GoesBack (old new : MachineValue) : Type 0 where
   pub problem : new.problem ≡ old.problem
   pub state : new.state ≡ prev old.problem old.state
   pub before : IsBefore old.problem new.state old.state

@@ -46,9 +46,9 @@ split_last [] = prelude.None
 split_last (x ∷ xs) = Some (with_first x (split_last xs))
 
 -- the option that a step comes to, or past the last
-abbrev pub cursor_of : Option ℕ → Cursor
-cursor_of prelude.None = Past
-cursor_of (Some o) = At o
+abbrev pub next_cursor : Option ℕ → Cursor
+next_cursor prelude.None = Past
+next_cursor (Some o) = At o
 
 -- the states that fit: the path is valid, X1 and Done have the empty one, an item is active where one was chosen, and the
 -- option that the step is at makes the path longer by a valid choice
@@ -90,10 +90,10 @@ abbrev pub next_at : ProblemValue → Label → List ℕ → Cursor → StateVal
 next_at p X1 path k = at X2 path cursor.None
 next_at p X2 path k = if is_open p path then at X3 path cursor.None else at X8 path cursor.None
 next_at p X3 path k = at X4 path cursor.None
-next_at p X4 path k = at X5 path (cursor_of (above 0 (remaining_after p path)))
+next_at p X4 path k = at X5 path (next_cursor (above 0 (remaining_after p path)))
 next_at p X5 path (At o) = at X2 (path ++ o ∷ []) cursor.None
 next_at p X5 path k = at X7 path cursor.None
-next_at p X6 path (At o) = at X5 path (cursor_of (above o (remaining_after p path)))
+next_at p X6 path (At o) = at X5 path (next_cursor (above o (remaining_after p path)))
 next_at p X6 path k = at X6 path k
 next_at p X7 path k = at X8 path cursor.None
 next_at p X8 path k = taken_back (split_last path)

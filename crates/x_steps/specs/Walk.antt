@@ -12,7 +12,7 @@ use Rattle.x_steps.specs.declared.machine.walk.Walk.{Walk}
 use Rattle.x_steps.specs.StateValue.{StateValue}
 use Rattle.x_steps.specs.Steps.{event_of}
 use Rattle.x_steps.specs.Run.{after, states, level_count, ReachesIn}
-use Rattle.x_steps.specs.Machine.{Position}
+use Rattle.x_steps.specs.Machine.{MachineValue}
 
 -- what the last of n steps tells; where there is none, nothing but that the search moves on
 abbrev pub last_event : ProblemValue → ℕ → StateValue → Event
@@ -45,8 +45,8 @@ pub record AreCounted (old new : List ℕ) (ss : List StateValue) : Type 0 where
   pub each : (level : ℕ) → level < length old → slice_index new level ≡ slice_index old level + level_count ss level
 
 -- so many more fit into each count
-abbrev pub HasRoom : ℕ → List ℕ → Type 0
-HasRoom most counts = (level : ℕ) → level < length counts → slice_index counts level + most < 2 ^ 32
+abbrev pub CountsHaveRoom : ℕ → List ℕ → Type 0
+CountsHaveRoom most counts = (level : ℕ) → level < length counts → slice_index counts level + most < 2 ^ 32
 
 -- n steps from s to t, none of which but the last comes to a visit or to the end; and what was counted
 pub record IsWalk (p : ProblemValue) (s t : StateValue) (old new : List ℕ) (n : ℕ) (event : Event) : Type 0 where
@@ -65,15 +65,15 @@ pub record IsRound (p : ProblemValue) (most : ℕ) (s t : StateValue) (old new :
 -- ---- the same for a machine
 
 -- the first machine comes to the second in n steps
-abbrev pub Reaches : Position → Position → ℕ → Type 0
+abbrev pub Reaches : MachineValue → MachineValue → ℕ → Type 0
 Reaches old new n = ReachesIn old.problem old.state new.state n
 
 -- to the counts are added the X2 states that a machine leaves with its next n steps
-abbrev pub CountsPassed : Position → ℕ → List ℕ → List ℕ → Type 0
+abbrev pub CountsPassed : MachineValue → ℕ → List ℕ → List ℕ → Type 0
 CountsPassed m n old new = AreCounted old new (states m.problem n m.state)
 
 -- none of these states is X5 at the last of these choices, after the others
-abbrev pub PassesNoCut : Position → ℕ → List ℕ → Type 0
+abbrev pub PassesNoCut : MachineValue → ℕ → List ℕ → Type 0
 PassesNoCut m n choices = (i : ℕ) → i < n → IsAtCut (after m.problem i m.state) choices → ⊥
 
 -- a walk from a state of the problem tells what the last of its steps does
@@ -86,9 +86,9 @@ abbrev pub IsOver : ℕ → StateValue → List ℕ → Walk → Type 0
 IsOver most s choices walk = (walk.steps ≡ most) ⊎ (walk.event ≢ Moved) ⊎ IsAtCut s choices
 
 -- a walk from the first machine to the second, and what was counted
-abbrev pub IsWalkOf : Position → Position → List ℕ → List ℕ → Walk → Type 0
+abbrev pub IsWalkOf : MachineValue → MachineValue → List ℕ → List ℕ → Walk → Type 0
 IsWalkOf old new counts counted walk = IsWalk old.problem old.state new.state counts counted walk.steps walk.event
 
 -- such a walk of at least one step and at most `most`, which passes no X5
-abbrev pub IsRoundOf : ℕ → Position → Position → List ℕ → List ℕ → Walk → Type 0
+abbrev pub IsRoundOf : ℕ → MachineValue → MachineValue → List ℕ → List ℕ → Walk → Type 0
 IsRoundOf most old new counts counted walk = IsRound old.problem most old.state new.state counts counted walk.steps walk.event

@@ -5,7 +5,7 @@ ghost use Rattle.cover_problem.specs.Problem.{IsProblem};
 ghost use Rattle.x_steps.specs.Answers.{RefusedUnchanged};
 ghost use Rattle.x_steps.specs.StateValue.{start};
 ghost use Rattle.x_steps.specs.StateView.{state_value};
-ghost use Rattle.x_steps.specs.Steps.{Fits, covered_in, next, event_of, cursor_of};
+ghost use Rattle.x_steps.specs.Steps.{Fits, covered_in, next, event_of, next_cursor};
 ghost use Rattle.x_steps.specs.Machine.{IsAt, Goes, item_to_choose};
 
 mod at;
@@ -26,7 +26,7 @@ pub use walk::{Walk, no_counts};
 /// At the option, or past the last.
 #[inline(always)]
 fn cursor_at(option: Option<u32>) -> Cursor
-    ensures { result ≡ cursor_of option }
+    ensures { result ≡ next_cursor option }
 {
     match option {
         Some(option) => Cursor::At(option),
@@ -66,9 +66,9 @@ pub struct Machine<'p, T: Table> {
 
 impl<'p, T: Table> Model for Machine<'p, T> {
     ghost use Rattle.std.specs.Prelude.{vec_capacity};
-    ghost use Rattle.x_steps.specs.Machine.{Position, Keeps};
+    ghost use Rattle.x_steps.specs.Machine.{MachineValue, Keeps};
 
-    ghost Value = { Position };
+    ghost Value = { MachineValue };
 
     ghost use Rattle.x_steps.specs.StateView.{state_value};
 

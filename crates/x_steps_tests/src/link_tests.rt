@@ -2,7 +2,7 @@
 ghost use Rattle.std.specs.Prelude.{◌≡◌, ◌<◌, ◌≤◌, length, [], ◌∷◌};
 ghost use Rattle.cover_problem.specs.Problem.{size_of};
 
-use cover_links::{Block, Entry, LinkTable, Offset};
+use cover_links::{Block, TableEntry, LinkTable, Offset};
 use cover_problem::{Problem, Table, read_cover};
 use drawn_problems::SMALL;
 use linked_list_allocator::LocalHeap;
@@ -274,9 +274,9 @@ fn write_each<A: Allocator>(block: &mut Block<A>, len: u32)
     ensures { length block.new ≡ length block.old }
 {
     for index in 0..len {
-        let entry = Entry {
+        let entry = TableEntry {
             top: Offset::at(index % MOST_ENTRIES),
-            ..Entry::blank()
+            ..TableEntry::blank()
         };
         block.write(index, entry);
     }
@@ -284,7 +284,7 @@ fn write_each<A: Allocator>(block: &mut Block<A>, len: u32)
 
 /// Whether a block takes its memory of the heap, holds what is written, and gives all back when it is dropped.
 fn is_given_back(heap: &LocalHeap, len: u32) -> bool {
-    let Ok(mut block) = Block::make(heap, len as usize, Entry::blank()) else {
+    let Ok(mut block) = Block::make(heap, len as usize, TableEntry::blank()) else {
         return false;
     };
     let taken = heap.used();

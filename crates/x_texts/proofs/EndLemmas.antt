@@ -11,7 +11,7 @@ use Rattle.text_lines.specs.Writing.{words_after, line_text, text_of}
 use Rattle.cover_problem.proofs.FlatListLemmas.{same_default}
 use Rattle.text_lines.proofs.WritingLemmas.{joined}
 use Rattle.x_texts.specs.Words.{visit_words}
-use Rattle.x_texts.specs.Ends.{word_ends, IsVisitLine, IsClosed, HasRoom, HoldsLine}
+use Rattle.x_texts.specs.Ends.{word_ends, IsVisitLine, IsClosed, LineHasRoom, HoldsLine}
 
 -- *words and where they end*
 
@@ -161,7 +161,7 @@ ends_within bytes path closed =
 
 -- longer lists hold the same line
 pub longer : (bytes ends path new_bytes new_ends new_path : List ℕ) (count : ℕ) → HoldsLine bytes ends path count → take (length bytes) new_bytes ≡ bytes → take (length ends) new_ends ≡ ends → take (length path) new_path ≡ path
-    → HasRoom new_bytes new_ends new_path → HoldsLine new_bytes new_ends new_path count
+    → LineHasRoom new_bytes new_ends new_path → HoldsLine new_bytes new_ends new_path count
 longer bytes ends path new_bytes new_ends new_path count holds same_bytes same_ends same_path room = record {
   within = let l = ap length same_path in let m = length-take (length path) new_path in omega (arith, l, m, holds.within);
   line = record {

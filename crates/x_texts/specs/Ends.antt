@@ -19,7 +19,7 @@ abbrev pub IsClosed : (bytes path : List ℕ) → Type 0
 IsClosed bytes path = get_or bytes (5 + length (words_after (map decimal path))) 0 ≡ 10
 
 -- a space and ten digits are the most that a choice takes; the first word and the line's end take six bytes
-pub record HasRoom (bytes ends path : List ℕ) : Type 0 where
+pub record LineHasRoom (bytes ends path : List ℕ) : Type 0 where
   pub for_bytes : 6 + 11 * length path ≤ length bytes
   pub for_ends : length path < length ends
 
@@ -28,4 +28,4 @@ pub record HoldsLine (bytes ends path : List ℕ) (count : ℕ) : Type 0 where
   pub within : count ≤ length path
   pub line : IsVisitLine bytes ends (take count path)
   pub closed : IsClosed bytes (take count path)
-  pub room : HasRoom bytes ends path
+  pub room : LineHasRoom bytes ends path

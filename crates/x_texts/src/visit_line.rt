@@ -2,7 +2,7 @@
 ghost use Rattle.std.specs.Prelude.{◌≡◌, ◌≤◌, ◌<◌, ◌+◌, ◌*◌, ◌++◌, ◌∷◌, [], take, max, length, decimal, map, OnOk, OnErr};
 ghost use Rattle.text_lines.specs.Writing.{line_text};
 ghost use Rattle.cover_problem.specs.Answers.{Returns};
-ghost use Rattle.x_texts.specs.Ends.{IsVisitLine, HasRoom, HoldsLine};
+ghost use Rattle.x_texts.specs.Ends.{IsVisitLine, LineHasRoom, HoldsLine};
 ghost use Rattle.x_texts.specs.Words.{visit_words};
 
 use itoa::Buffer;
@@ -129,7 +129,7 @@ fn put_rest(bytes: &mut [u8], ends: &mut [usize], kept: &mut [u32], count: usize
     requires first_ones { IsVisitLine bytes.old ends.old (take count path.now) }
     requires kept { take count kept.old ≡ take count path.now }
     requires wide { length path.now ≤ length kept.old }
-    requires room { HasRoom bytes.old ends.old kept.old }
+    requires room { LineHasRoom bytes.old ends.old kept.old }
     ensures line { HoldsLine bytes.new ends.new kept.new (length path.now) }
     ensures kept { take (length path.now) kept.new ≡ path.now }
     ensures bytes_size { length bytes.new ≡ length bytes.old }

@@ -5,7 +5,7 @@ ghost use Rattle.std.specs.Str.{bytes_eq};
 ghost use Rattle.text_lines.specs.Lines.{words_of};
 ghost use Rattle.x_snapshot.specs.Snapshot.{choices_of};
 ghost use Rattle.debug_language.specs.Reader as spec;
-ghost use Rattle.debug_language.specs.Reader.{is_comma, parts_of, FindsAs, FailsOnly};
+ghost use Rattle.debug_language.specs.Reader.{is_comma, comma_parts, FindsAs, FailsOnly};
 
 use crate::reader::Found;
 use std::alloc::Global;
@@ -120,7 +120,7 @@ fn comma_at(word: &[u8]) -> usize
 
 /// What stands before the first comma, and what stands after it, if there is one.
 fn split_part(word: &[u8]) -> (&[u8], Option<&[u8]>)
-    ensures { slice_split is_comma word.now ≡ result.0.now ∷ parts_of (option_copied result.1) }
+    ensures { slice_split is_comma word.now ≡ result.0.now ∷ comma_parts (option_copied result.1) }
 {
     let (part, rest) = word.split_at(comma_at(word));
     match rest {

@@ -3,7 +3,7 @@ ghost use Rattle.std.specs.Prelude.{◌≡◌, ◌-◌, true, IfErr, OnErr, OnOk
 ghost use Rattle.lab_history.specs.declared.entry.Call.TheVariants as calls;
 ghost use Rattle.lab_book.specs.Calls.{Ends, RefusesEnd, RefusedIf, ScribeNotesBy, ScribeNotesByFault, ReadyToEnd, is_current};
 ghost use Rattle.lab_desk.specs.Record.{NotesDone, NotesRefused, SheetNotes, SheetReady, ends_lease};
-ghost use Rattle.lab_desk.specs.Ending.{call_of_end, is_at_mark};
+ghost use Rattle.lab_history.specs.Ending.{call_of_end, is_at_mark};
 ghost use Rattle.lab_desk.specs.Seats.{IsDeskBook, LacksRoom};
 
 use crate::desk::{Desk, Desking};
@@ -11,16 +11,9 @@ use crate::locked::{Locked, count_refusal};
 use crate::seat::Seat;
 use crate::sheet::Sheet;
 use lab_book::{Book, BookFault, Lease};
+use lab_history::Ending;
 use std::sync::Wait;
 use x_steps::Refused;
-
-/// How a worker ends its lease.
-#[derive(Clone, Copy)]
-pub(crate) enum Ending {
-    Park,
-    Abandon,
-    Close,
-}
 
 /// Ends a lease so, with a sheet as the book's scribe.
 fn end_by(

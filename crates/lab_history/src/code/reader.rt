@@ -3,7 +3,7 @@ ghost use Rattle.std.specs.Prelude.{◌≡◌, ℕ, List, IfOk, OnOk};
 ghost use Rattle.cover_problem.specs.Answers.{Returns};
 ghost use Rattle.x_codes.specs.StateCode.{later, after_rest, path_rest, state_of, state_rest};
 ghost use Rattle.lab_history.specs.EntryCode.{worker_of, cut_of, cut_rest, retracted_read};
-ghost use Rattle.lab_history.specs.EntryCode.{grant_of, grant_rest, fault_of, fault_with, call_of, call_rest, call_with, call_rest_with};
+ghost use Rattle.lab_history.specs.EntryCode.{grant_of, grant_rest, fault_of, fault_numbered, call_of, call_rest, call_with, call_rest_with};
 ghost use Rattle.lab_history.specs.EntryCode.{post_read, split_read, leased_read, reply_of};
 ghost use Rattle.lab_history.specs.EntryCode.{reply_with, entry_of, put_back_read, posted_read};
 ghost use Rattle.lab_history.specs.Kinds.{kind_of};
@@ -61,7 +61,7 @@ fn read_grant(reader: &mut Reader<'_>) -> Grant
 
 /// Reads a fault of this kind.
 fn read_fault_of(alloc: Global, kind: u64, reader: &mut Reader<'_>) -> Result<BookFault, AllocError>
-    ensures { IfOk result (λ fault. fault ≡ fault_with kind reader.old) }
+    ensures { IfOk result (λ fault. fault ≡ fault_numbered kind reader.old) }
 {
     match kind {
         1 => Ok(BookFault::UnknownBranch),

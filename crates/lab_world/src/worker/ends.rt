@@ -2,21 +2,14 @@
 ghost use Rattle.std.specs.Prelude.{◌≡◌, IfErr, OnOk};
 ghost use Rattle.lab_book.specs.Calls.{Ends, RefusesEnd};
 ghost use Rattle.lab_history.specs.declared.entry.Call.TheVariants as calls;
-ghost use Rattle.lab_world.specs.Worker.{end_call};
+ghost use Rattle.lab_history.specs.Ending.{call_of_end};
 
 use crate::worker::Worker;
 use cover_problem::Table;
 use lab_book::{Book, BookFault, Lease};
+use lab_history::Ending;
 use x_branches::Runner;
 use x_steps::Refused;
-
-/// How a worker gives its tile up.
-#[derive(Clone, Copy)]
-pub(crate) enum Ending {
-    Park,
-    Abandon,
-    Close,
-}
 
 /// Ends a lease so.
 fn end_lease(
@@ -24,8 +17,8 @@ fn end_lease(
     lease: Lease,
     ending: Ending,
 ) -> Result<(), Refused<BookFault, Lease>>
-    ensures made { OnOk result (Ends book.old book.new (end_call ending) lease) }
-    ensures refused { RefusesEnd result book.old book.new (end_call ending) lease }
+    ensures made { OnOk result (Ends book.old book.new (call_of_end ending) lease) }
+    ensures refused { RefusesEnd result book.old book.new (call_of_end ending) lease }
     ensures given_back { IfErr result (λ r. r.given ≡ lease) }
 {
     match ending {
@@ -52,8 +45,8 @@ impl<'p, T: Table> Worker<'p, T> {
         book: &mut Book<'p>,
         ending: Ending,
     ) -> Result<(), Refused<BookFault, Worker<'p, T>>>
-        ensures made { OnOk result (Ends book.old book.new (end_call ending) self.entry.grant) }
-        ensures refused { RefusesEnd result book.old book.new (end_call ending) self.entry.grant }
+        ensures made { OnOk result (Ends book.old book.new (call_of_end ending) self.entry.grant) }
+        ensures refused { RefusesEnd result book.old book.new (call_of_end ending) self.entry.grant }
         ensures given_back { IfErr result (λ r. r.given ≡ self.entry) }
     {
         // The runner waits beside the call, so that a refused worker comes back whole.

@@ -8,7 +8,7 @@ ghost use Rattle.poly_texts.specs.Reading as reading;
 ghost use Rattle.poly_texts.specs.Reading.{has_piece, some_repeated, taken_in, with_line, with_pieces, with_spare};
 
 use crate::draft::Draft;
-use crate::fault::{Fault, LineFault};
+use crate::fault::{Fault, LineRefusal};
 use crate::name::PieceName;
 use crate::need::Need;
 use crate::piece::shape_of;
@@ -28,15 +28,15 @@ impl Draft {
         are_several: bool,
         is_mirrored: bool,
         words: &[u8],
-    ) -> Result<(), LineFault>
+    ) -> Result<(), LineRefusal>
         ensures { Becomes result self.new
             (reading.piece_line self.old need are_several is_mirrored (words_of words.now)) }
     {
         let Some((word, cells)) = split_word(words) else {
-            return Err(LineFault::Fault(Fault::BadLine));
+            return Err(LineRefusal::Fault(Fault::BadLine));
         };
         if !has_words(cells) {
-            return Err(LineFault::Fault(Fault::BadLine));
+            return Err(LineRefusal::Fault(Fault::BadLine));
         }
         let names = new_names(
             alloc,
@@ -58,12 +58,12 @@ impl Draft {
         alloc: Global,
         is_mirrored: bool,
         words: &[u8],
-    ) -> Result<(), LineFault>
+    ) -> Result<(), LineRefusal>
         ensures { Becomes result self.new
             (reading.copies_line self.old is_mirrored (words_of words.now)) }
     {
         let Some((word, cells)) = split_word(words) else {
-            return Err(LineFault::Fault(Fault::BadLine));
+            return Err(LineRefusal::Fault(Fault::BadLine));
         };
         if let Some((needed, spare)) = split_plus(word) {
             return self.take_range(alloc, is_mirrored, needed, spare, cells);
@@ -80,12 +80,12 @@ impl Draft {
         needed: &[u8],
         spare: &[u8],
         cells: &[u8],
-    ) -> Result<(), LineFault>
+    ) -> Result<(), LineRefusal>
         ensures { Becomes result self.new
             (reading.range_line self.old is_mirrored needed.now spare.now (words_of cells.now)) }
     {
         if !has_words(cells) || spare.is_empty() {
-            return Err(LineFault::Fault(Fault::BadLine));
+            return Err(LineRefusal::Fault(Fault::BadLine));
         }
         let names = self.range_names(alloc, needed, spare)?;
         let shape = shape_of(alloc, cells)?;
@@ -99,7 +99,7 @@ impl Draft {
         alloc: Global,
         needed: &[u8],
         spare: &[u8],
-    ) -> Result<Vec<PieceName>, LineFault>
+    ) -> Result<Vec<PieceName>, LineRefusal>
         ensures name { Gives (λ names. names.items) result
             (reading.new_names (taken_in self.now) needs.Must true (needed.now ++ spare.now)) }
         ensures new { IfOk result (λ names. some_repeated (taken_in self.now) names.items ≡ false) }

@@ -2,7 +2,7 @@
 ghost use Rattle.std.specs.Prelude.{◌≡◌, ◌≢◌, ◌<◌, ◌≤◌, ◌+◌, ◌++◌, ◌⊎◌, ◌↔◌, true, false, length, IsTrue, IfOk, IfErr, OnOk, OnErr};
 ghost use Rattle.x_steps.specs.StateView.{state_value};
 ghost use Rattle.x_steps.specs.Steps.{Fits};
-ghost use Rattle.x_steps.specs.Walk.{OnlyMoves, HasRoom, PassesNoCut, TellsLast, IsWalkOf};
+ghost use Rattle.x_steps.specs.Walk.{OnlyMoves, CountsHaveRoom, PassesNoCut, TellsLast, IsWalkOf};
 ghost use Rattle.x_branches.specs.Branch.{end_of};
 ghost use Rattle.x_branches.specs.Refusals.{CanAdvance, AdvanceRefused};
 ghost use Rattle.x_branches.specs.Walk.{advanced_by, CanAdvanceBy, IsHeldUp, HasToStop, AddsVisit, passed_visits, IsOverOrAtVisit};
@@ -37,7 +37,7 @@ fn walk_noted<T: Table>(
     requires fits { Fits machine.old.problem machine.old.state }
     requires goes_on { machine.old.state.label ≢ Label.Done }
     requires levels { length counts.old ≡ length machine.old.problem.names + 1 }
-    requires room { HasRoom most counts.old }
+    requires room { CountsHaveRoom most counts.old }
     ensures problem { machine.new.problem ≡ machine.old.problem }
     ensures walk { IsWalkOf machine.old machine.new counts.old counts.new result }
     ensures visits { visits.new ≡ visits.old ++ passed_visits machine.old result.steps }

@@ -1,7 +1,7 @@
 //! Many steps at once. Here a label of the step table is a place in the code, and no choice is made where the table has none.
 ghost use Rattle.std.specs.Prelude.{◌≡◌, ◌≢◌, ◌<◌, ◌≤◌, ◌+◌, ◌^◌, ◌↔◌, ◌∷◌, ◌++◌, [], ℕ, List, length, replicate, slice_index};
 ghost use Rattle.std.specs.Prelude.{slice_set, IfErr, IfOk, IsErr, IsTrue};
-ghost use Rattle.x_steps.specs.Walk.{OnlyMoves, IsAtCut, HasRoom, Reaches, CountsPassed, PassesNoCut, TellsLast, IsOver, IsRoundOf};
+ghost use Rattle.x_steps.specs.Walk.{OnlyMoves, IsAtCut, CountsHaveRoom, Reaches, CountsPassed, PassesNoCut, TellsLast, IsOver, IsRoundOf};
 ghost use Rattle.x_steps.specs.Machine.{IsAt};
 ghost use Rattle.x_steps.specs.StateView.{state_value};
 
@@ -73,7 +73,7 @@ impl<'p, T: Table> Machine<'p, T> {
     /// are added the X2 states passed. Refused only at Done, which changes nothing.
     pub fn walk(&mut self, most: u32, end: &[u32], counts: &mut [u32]) -> Result<Walk, StepFault>
         requires levels { length counts.old ≡ length self.old.problem.names + 1 }
-        requires room { HasRoom most counts.old }
+        requires room { CountsHaveRoom most counts.old }
         ensures problem { self.new.problem ≡ self.old.problem }
         ensures steps { IfOk result (λ w. Reaches self.old self.new w.steps) }
         ensures within { IfOk result (λ w. w.steps ≤ most) }
@@ -114,7 +114,7 @@ impl<'p, T: Table> Machine<'p, T> {
         requires goes_on { self.old.state.label ≢ Label.Done }
         requires some { 0 < most }
         requires levels { length counts.old ≡ length self.old.problem.names + 1 }
-        requires room { HasRoom most counts.old }
+        requires room { CountsHaveRoom most counts.old }
         ensures problem { self.new.problem ≡ self.old.problem }
         ensures round { IsRoundOf most self.old self.new counts.old counts.new result }
     {
@@ -132,7 +132,7 @@ impl<'p, T: Table> Machine<'p, T> {
         requires label { self.old.state.label ≡ Label.X5 }
         requires cursor { self.old.state.cursor ≡ Cursor.At option }
         requires levels { length counts.old ≡ length self.old.problem.names + 1 }
-        requires room { HasRoom 4 counts.old }
+        requires room { CountsHaveRoom 4 counts.old }
         ensures problem { self.new.problem ≡ self.old.problem }
         ensures round { IsRoundOf 4 self.old self.new counts.old counts.new result }
     {
@@ -189,7 +189,7 @@ impl<'p, T: Table> Machine<'p, T> {
     fn single(&mut self, counts: &mut [u32]) -> Walk
         requires goes_on { self.old.state.label ≢ Label.Done }
         requires levels { length counts.old ≡ length self.old.problem.names + 1 }
-        requires room { HasRoom 1 counts.old }
+        requires room { CountsHaveRoom 1 counts.old }
         ensures problem { self.new.problem ≡ self.old.problem }
         ensures round { IsRoundOf 1 self.old self.new counts.old counts.new result }
     {

@@ -1,5 +1,5 @@
 use Rattle.std.proofs.Common.{◌≡◌, ℕ, suc, ◌+◌, ◌-◌, [], ◌∷◌, length, get_or, set, drop, sym, ap, ◌∙◌, subst, arith, List}
-use Rattle.cover_links.specs.declared.entry.Entry.{Entry}
+use Rattle.cover_links.specs.declared.entry.TableEntry.{TableEntry}
 use Rattle.cover_links.specs.Entries.{changed, to_down}
 use Rattle.cover_links.specs.Fresh.{node_appended, nodes_appended, option_appended}
 use Rattle.cover_links.specs.Layout.{place_after}
@@ -21,7 +21,7 @@ loop-item-preserved c =
     let can : CanAppendNodes es x l r (get_or o i 0 ∷ drop (i + 1) o) = subst (λ js. CanAppendNodes es x l r js) cut s.can in
     record {
       rest = (λ j. nodes_appended (new j) (sym next j) l r (drop (i + 1) o)) ∙ sym (ap (λ js. nodes_appended es x l r js) cut) ∙ s.rest;
-      can = subst (λ (w : List Entry × ℕ). CanAppendNodes w.0 w.1 l r (drop (i + 1) o)) (λ j. (sym new j, next j)) can.1;
+      can = subst (λ (w : List TableEntry × ℕ). CanAppendNodes w.0 w.1 l r (drop (i + 1) o)) (λ j. (sym new j, next j)) can.1;
       place = (let p = s.place in omega arith);
       size = ap length new ∙ length-node_appended es x (get_or o i 0) (place_after l r x) ∙ s.size;
     }
@@ -34,7 +34,7 @@ returns c =
     let all : c.loop-item.block ≡ nodes_appended es l l r o = sym (ap (λ js. nodes_appended c.loop-item.block c.loop-item.index l r js) none) ∙ s.rest in
     let wrote = c.write.ensures ∙ ap (λ (n : ℕ). set c.loop-item.block (l - 1) (to_down n c.read-before.result)) c.at.ensures in
     let down = written (to_down (r - 1)) c.loop-item.block c.write.new.self (l - 1) c.read-before.result wrote c.read-before.ensures in
-    let end : Entry = record { top = c.at-2.result; up = c.at-3.result; down = (c.blank.result).down; left = (c.blank.result).left; right = (c.blank.result).right } in
+    let end : TableEntry = record { top = c.at-2.result; up = c.at-3.result; down = (c.blank.result).down; left = (c.blank.result).left; right = (c.blank.result).right } in
     let spacer : end ≡ record { top = c.args.number; up = l; down = 0; left = 0; right = 0 } =
     (λ v. record { top = c.at-2.ensures v; up = c.at-3.ensures v; down = (c.blank.ensures v).down; left = (c.blank.ensures v).left; right = (c.blank.ensures v).right }) in
     c.write-2.ensures ∙ ap (set c.write.new.self r) spacer ∙ ap (λ fs. set fs r (record { top = c.args.number; up = l; down = 0; left = 0; right = 0 })) (down ∙ ap (λ fs. changed (to_down (r - 1)) fs (l - 1)) all)

@@ -1,6 +1,6 @@
 use Rattle.std.proofs.Common.{◌≡◌, ℕ, suc, ◌+◌, ◌<◌, length, get_or, replicate, sym, ap, ◌∙◌, subst, arith, List}
 use Rattle.cover_problem.specs.Problem.{option_at, size_of}
-use Rattle.cover_links.specs.declared.entry.Entry.{Entry}
+use Rattle.cover_links.specs.declared.entry.TableEntry.{TableEntry}
 use Rattle.cover_links.specs.Fresh.{heads_written, option_appended, built, fresh}
 use Rattle.cover_links.specs.Safety.{CanAppendOption}
 use Rattle.cover_links.proofs.LayoutLemmas.{start_last, start_low}
@@ -33,7 +33,7 @@ append_option-requires c =
     let start = c.requires.each k (omega arith) in let next : suc k ≡ k + 1 = omega arith in
     let option : c.option.result.now ≡ option_at p (suc k) = c.option.ensures ∙ ap (λ n. option_at p n) (sym next) in
     record {
-      can = subst (λ (w : List Entry × ℕ × List ℕ). CanAppendOption w.0 w.1 w.2) (λ j. (sym c.loop-k.invariant j, sym start j, sym option j)) (built_can p c.items-items.ensures.problem k lt);
+      can = subst (λ (w : List TableEntry × ℕ × List ℕ). CanAppendOption w.0 w.1 w.2) (λ j. (sym c.loop-k.invariant j, sym start j, sym option j)) (built_can p c.items-items.ensures.problem k lt);
       small = (let m = few_options p c.items-items.ensures.problem in omega arith);
     }
 

@@ -45,7 +45,7 @@ use Rattle.std_alloc.proofs.ResultValues.{ok_of, err_of}
 use Rattle.std_alloc.proofs.RcSteps.{Good, word-Good, first_Good}
 use Rattle.std_alloc.proofs.VecSteps.Shapes.{after, head, arm_body}
 use Rattle.cover_links.specs.contracts.raw.Base.{the_row as Start}
-use Rattle.cover_links.specs.contracts.raw.Slots.{the_row as Row}
+use Rattle.cover_links.specs.contracts.raw.Slots.{the_row as BlockRow}
 use Rattle.cover_links.proofs.raw.Base.TheLaws.{lowered}
 use Rattle.cover_links.specs.contracts.raw.Allocation as allocation
 use Rattle.cover_links.specs.Ownership.{entry_type, entry_size, FitsInBlock, slots_own}
@@ -66,7 +66,7 @@ module _ (Z : Al) where
   stayed = (stay_dropped (RefOf (0 ∷ []) tt (plain (λ _. param 0 Z.row)) (λ _. tt)) yes, (stay_dropped (plain (λ _. usize)) yes, tt))
 
   abbrev Three : RattleType
-  Three = Tuple (Start ∷ Row ∷ allocation.the_row (param 0 Z.row) Z.g ∷ [])
+  Three = Tuple (Start ∷ BlockRow ∷ allocation.the_row (param 0 Z.row) Z.g ∷ [])
 
   abbrev Out : RattleType
   Out = RS.the_row Three AE.the_row
@@ -102,7 +102,7 @@ allocate_spec 𝓤 𝓛 𝓜 𝓡 wired X LX g d dd met md =
     (λ b o e.
     let p : Ptr = block_ptr b o in
     let start : (Start).Denot = record { ptr = p } in
-    let slots : (Row).Denot = record { mark = record {}; at = p; slots = replicate n None } in
+    let slots : (BlockRow).Denot = record { mark = record {}; at = p; slots = replicate n None } in
     let right : (allocation.the_row (param 0 X) g).Denot = record { mark = record {}; at = p; len = n; alloc = a.0.now } in
     let made : Val = three_val (lowered start) mark mark in
     let typed : Good (layout (Three Z)) made = (tt, ((tt, tt), ((tt, tt), ((tt, tt), tt)))) in
@@ -120,7 +120,7 @@ allocate_spec 𝓤 𝓛 𝓜 𝓡 wired X LX g d dd met md =
     as_written ! (ty_array entry_type n) b o $ use1 𝓛 (‵ (slots_own b o slots.slots)) (rows_of_room 𝓛 b n o) $
     flt_i ! (length slots.slots * entry_size) (2 ^ 63) (subst (λ k. k * entry_size < 2 ^ 63) (sym (length-replicate n None)) small) $ fjoin ! $
     use0 𝓛 (‵ ((Mark).own_val (tt, tt) (mark ∷ []))) (mark_made 𝓛) $ fjoin ! $ use0 𝓛 (‵ ((Start).own_val start (lowered start ∷ []))) (start_made 𝓛 p) $
-    use3 𝓛 (‵ ((Three Z).own_val (start, slots, right) (made ∷ []))) (three_made 𝓛 Start Row (allocation.the_row (param 0 X) g) start slots right (lowered start) mark mark) $
+    use3 𝓛 (‵ ((Three Z).own_val (start, slots, right) (made ∷ []))) (three_made 𝓛 Start BlockRow (allocation.the_row (param 0 X) g) start slots right (lowered start) mark mark) $
     use1 𝓛 (‵ ((Out Z).own_val (Ok (start, slots, right)) (live 0 (vcons made vnil) ∷ []))) (ok_of 𝓛 (Three Z) AE.the_row (start, slots, right) made) $
     returns ! (look_at ! 0 refl) $ free_all ! refl $ keep ! (0 ∷ 1 ∷ 2 ∷ []) $
     suffices ! _ (ends_at 𝓛 (ended Z) (stayed Z) c y (live 0 (vcons made vnil)) (Ok (start, slots, right)) (tt, (tt, tt)) (tt, (tt, tt))) $ says ! (refl, refl, refl, refl, refl) $

@@ -37,7 +37,7 @@ use Rattle.std_alloc.proofs.RawLayout.{as_raw}
 use Rattle.std_alloc.proofs.RcSteps.{word-Good}
 use Rattle.std_alloc.proofs.VecSteps.Shapes.{after}
 use Rattle.cover_links.specs.contracts.raw.Base.{the_row as Start}
-use Rattle.cover_links.specs.contracts.raw.Slots.{the_row as Row}
+use Rattle.cover_links.specs.contracts.raw.Slots.{the_row as BlockRow}
 use Rattle.cover_links.specs.contracts.raw.Allocation as allocation
 use Rattle.cover_links.proofs.raw.Base.TheLaws as start
 use Rattle.cover_links.specs.Ownership.{entry_type, entry_size, row_own, allocation_owns}
@@ -56,7 +56,7 @@ module _ (Z : Al) where
 
   abbrev stayed : Stays ended.signature.params ended.kept
   stayed =
-      (stay_dropped (RefOf (0 ∷ []) tt (plain (λ _. param 0 Z.row)) (λ _. tt)) yes, (stay_dropped (plain (λ _. Start)) yes, (stay_dropped (plain (λ _. usize)) yes, (stay_dropped (plain (λ _. Row)) yes, (stay_dropped (plain (λ _. allocation.the_row (param 0 Z.row) Z.g)) no, tt)))))
+      (stay_dropped (RefOf (0 ∷ []) tt (plain (λ _. param 0 Z.row)) (λ _. tt)) yes, (stay_dropped (plain (λ _. Start)) yes, (stay_dropped (plain (λ _. usize)) yes, (stay_dropped (plain (λ _. BlockRow)) yes, (stay_dropped (plain (λ _. allocation.the_row (param 0 Z.row) Z.g)) no, tt)))))
 
 pub deallocate_spec : {M : Type 1} → statement M
 deallocate_spec 𝓤 𝓛 𝓜 𝓡 wired X LX g d dd met md =
@@ -68,7 +68,7 @@ deallocate_spec 𝓤 𝓛 𝓜 𝓡 wired X LX g d dd met md =
         Goes-dropped 𝓛 2 (plain (λ _. Start)) yes (λ κs x w. refl),
         (
           Goes-dropped 𝓛 2 (plain (λ _. usize)) yes (λ κs x w. refl),
-          (Goes-blank 𝓛 2 (plain (λ _. Row)) yes (λ κs x w. tt), (Goes-blank 𝓛 2 (plain (λ _. allocation.the_row (param 0 X) g)) no (λ κs x w. tt), tt)),
+          (Goes-blank 𝓛 2 (plain (λ _. BlockRow)) yes (λ κs x w. tt), (Goes-blank 𝓛 2 (plain (λ _. allocation.the_row (param 0 X) g)) no (λ κs x w. tt), tt)),
         ),
       ),
     )
@@ -86,7 +86,7 @@ deallocate_spec 𝓤 𝓛 𝓜 𝓡 wired X LX g d dd met md =
     let κ = κs.0 in let q = qs.0 in let base = a.1.0 in let n = a.1.1.0 in let slots = a.1.1.1.0 in let own = a.1.1.1.1.0 in let function : Fn = inst_fn (args Z) code.function in
     let vss : List Val × (List Val × (List Val × (List Val × (List Val × Unit {0})))) = (shr_vals a.0, (start.lowered base ∷ [], (uint_vals w64 n, (mark ∷ [], (mark ∷ [], tt))))) in
     let y : W.Ghost = ((κs, qs, bounds, a, vss), tt) in
-    qed 𝓛 (((‵ (flft κ q) ⊛ ‵ (flft κs.1.0 qs.1.0) ⊛ ‵ ftrue) ⊛ ‵ (owns (ShrRef (named 0) κ (param 0 X) ∷ Start ∷ usize ∷ Row ∷ allocation.the_row (param 0 X) g ∷ []) a vss)) ∷ raw (fact 𝓤 (κs.1.0 ⊑ X.lives))
+    qed 𝓛 (((‵ (flft κ q) ⊛ ‵ (flft κs.1.0 qs.1.0) ⊛ ‵ ftrue) ⊛ ‵ (owns (ShrRef (named 0) κ (param 0 X) ∷ Start ∷ usize ∷ BlockRow ∷ allocation.the_row (param 0 X) g ∷ []) a vss)) ∷ raw (fact 𝓤 (κs.1.0 ⊑ X.lives))
     ∷ raw (fact 𝓤 ((slots.at ≡ base.ptr) × (length slots.slots ≡ n) × (own.at ≡ base.ptr) × (own.len ≡ n) × (own.alloc ≡ a.0.now))) ∷ []) ∵
     split ! $ split ! $ move ! (3 ∷ []) $ heard ! _ (λ within. move ! (3 ∷ []) $ heard ! _ (λ asked. move ! (2 ∷ []) $ fsplit ! $ fsplit ! $ feq_l ! (λ same.
     -- [the handle; the other parameters; the tokens]

@@ -1,13 +1,13 @@
 use Rattle.std.proofs.Common.{◌≡◌, ℕ, suc, ◌<◌, ◌≤◌, ◌==◌, inl, inr, true, false, Some, List, refl, sym, ap, ◌∙◌, arith}
 use Rattle.std.proofs.lemmas.Bool.{ne_eqb, cases_lt, false≢true, true≢false}
-use Rattle.cover_links.specs.declared.entry.Entry.{Entry}
+use Rattle.cover_links.specs.declared.entry.TableEntry.{TableEntry}
 use Rattle.cover_links.specs.Entries.{entry_at}
 use Rattle.cover_links.specs.Table.{IsNodeOf, IsHeadOrNode, nonzero, is_spacer}
 use Rattle.cover_links.proofs.TableLemmas.{seen_at}
 use Rattle.cover_links.proofs.table.option_at.Goals as goal
 
 -- the first spacer past a node tells the number
-first_tells : (es : List Entry) (item node y k : ℕ) → node < y → is_spacer (entry_at es y) ≡ true → ((x j : ℕ) → IsNodeOf es item node x j → y ≤ x)
+first_tells : (es : List TableEntry) (item node y k : ℕ) → node < y → is_spacer (entry_at es y) ≡ true → ((x j : ℕ) → IsNodeOf es item node x j → y ≤ x)
     → (node ≡ item → ⊥) → IsHeadOrNode es item node k → Some (entry_at es y).top ≡ nonzero k
 first_tells es item node y k past end first ne (inl head) = absurd (ne head.0)
 first_tells es item node y k past end first ne (inr (x, n)) = elim (cases_lt y x) [
@@ -33,5 +33,5 @@ pub returns : goal.returns
 returns c k n =
     let here = c.loop-past.invariant in let es = c.args.block.now in
     let end = seen_at es here.0 c.is_spacer.ensures c.loop-past-test.false (c.read_at.ensures here.0 here.1) in
-    ap Some (c.index.ensures ∙ ap (λ (e : Entry). e.top) (c.read_at-2.ensures here.0 here.1))
+    ap Some (c.index.ensures ∙ ap (λ (e : TableEntry). e.top) (c.read_at-2.ensures here.0 here.1))
     ∙ first_tells es c.args.item c.args.node here.0 k here.2 end here.3 (c.if-is.ensures.apart refl) n

@@ -1,12 +1,12 @@
 use Rattle.std.proofs.Common.{◌≡◌, ◌+◌, ◌*◌, ◌≤◌, ◌++◌, length, vec_len, vec_capacity}
-use Rattle.packed_rows.specs.Pieces.{ArePlaces, draft_bytes, Grows}
+use Rattle.packed_rows.specs.Pieces.{AreSpans, draft_bytes, Grows}
 use Rattle.packed_rows.proofs.draft.put_row.Given as goal
 
 abbrev pub invariant-putting : goal.invariant-putting
 invariant-putting l = record {
   bytes : draft_bytes l.block.items l.places.items l.from ++ l.rest ≡ l.row;
   from : l.from ≤ length l.block.items;
-  placed : ArePlaces (length l.block.items) l.places.items;
+  placed : AreSpans (length l.block.items) l.places.items;
   grows : Grows l.fn.block.items l.block.items;
   shorter : length l.rest ≤ length l.row;
   long : vec_len l.block + length l.rest ≤ vec_len l.fn.block + length l.row;

@@ -5,7 +5,7 @@ use Rattle.x_steps.specs.StateValue.{StateValue, done}
 use Rattle.x_steps.specs.Rank.{rank}
 use Rattle.x_steps.specs.Steps.{Fits}
 use Rattle.x_steps.specs.Run.{states_between}
-use Rattle.x_steps.specs.Machine.{Position}
+use Rattle.x_steps.specs.Machine.{MachineValue}
 use Rattle.x_steps.specs.Walk.{IsWalk}
 use Rattle.x_steps.proofs.WalkLemmas.{lent_whole}
 use Rattle.polylab_engine.specs.Account.{Account, ReportValue, AreSums, account_of, report_of}
@@ -68,7 +68,7 @@ pub loop-first-smaller-then-room-eq0 : goal.loop-first-smaller-then-room-eq0
 loop-first-smaller-then-room-eq0 g c =
     let f = c.if-walk-eq0.false in
     let walk = subst (λ l. IsWalk (stands c.loop-first.searcher).problem (stands c.loop-first.searcher).state (stands c.walk_on-walk.new.searcher).state l c.walk_on-walk.new.counts c.walk_on-walk.result.steps c.walk_on-walk.result.event) c.deref_mut.ensures.value c.walk_on-walk.ensures.walk in
-    subst (λ (m : Position). rank (stands c.args.searcher).problem done - rank (stands c.args.searcher).problem m.state < rank (stands c.args.searcher).problem done - rank (stands c.args.searcher).problem (stands c.loop-first.searcher).state) (sym c.asked_again-searcher.ensures)
+    subst (λ (m : MachineValue). rank (stands c.args.searcher).problem done - rank (stands c.args.searcher).problem m.state < rank (stands c.args.searcher).problem done - rank (stands c.args.searcher).problem (stands c.loop-first.searcher).state) (sym c.asked_again-searcher.ensures)
     (searches_nearer _ _ _ _ _ _ (stands c.walk_on-walk.new.searcher) _ _ _ _ _ _ _ c.loop-first.invariant.0 walk (omega arith))
 
 pub loop-first-preserved : goal.loop-first-preserved
@@ -107,7 +107,7 @@ loop-first-preserved-then-room-eq0 g c =
     (pace_left c.loop-first.left c.pace_of.result _ c.pace_of.ensures.left within) c.walk_on-walk.ensures.before path c.in_ok-note.ensures c.left_after-left.ensures in
     let row = c.deref-then-room-eq0.ensures.value ∙ lent_whole _ _ _ walk.counted.levels size in
     let sums = subst (λ l. AreSums c.note.new.self.entered l c.add_counts-then-room-eq0.new.self.entered) row c.in_ok-add_counts-2.ensures.sums in (
-      subst (λ (m : Position). Searches c.args.keeps (stands c.args.searcher).problem (stands c.args.searcher).state c.args.end.now c.args.most m c.add_counts-then-room-eq0.new.self c.in_ok-counts-2.counts.items 4294967295 c.left_after-left.result)
+      subst (λ (m : MachineValue). Searches c.args.keeps (stands c.args.searcher).problem (stands c.args.searcher).state c.args.end.now c.args.most m c.add_counts-then-room-eq0.new.self c.in_ok-counts-2.counts.items 4294967295 c.left_after-left.result)
           (sym c.asked_again-searcher.ensures)
           (searches_anew _ _ _ _ _ (stands c.walk_on-walk.new.searcher) _ _ _ _ _ _ 4294967295 _ on c.in_ok-add_counts-2.ensures.others sums
           (c.items-items.ensures.count ∙ ap (λ (q : ProblemValue). length q.names) c.problem.ensures) c.in_ok-counts-2.ensures (omega arith)),

@@ -1,5 +1,5 @@
 use Rattle.std.proofs.Common.{◌≡◌, ℕ, suc, ◌+◌, ◌-◌, length, set, refl, sym, ap, subst, ◌∙◌, arith, Some, List, Option}
-use Rattle.cover_links.specs.declared.entry.Entry.{Entry}
+use Rattle.cover_links.specs.declared.entry.TableEntry.{TableEntry}
 use Rattle.cover_links.specs.Slots.{values, IsFull}
 use Rattle.cover_links.proofs.FullRows.{filled, filled_none, filled_one, filled_values, filled_full, filled_length}
 use Rattle.cover_links.proofs.block.Block.make.Goals as goal
@@ -21,11 +21,11 @@ loop-index-preserved g c =
     let one : n - i ≡ suc (n - (i + 1)) = omega (arith, lt) in
     let next : suc i ≡ i + 1 = omega arith in
     record {
-      places = c.put.ensures.1 i refl ∙ ap (λ (l : List (Option Entry)). set l i (Some e)) (s.places ∙ ap (λ k. filled i k e) one) ∙ filled_one i (n - (i + 1)) e ∙ ap (λ k. filled k (n - (i + 1)) e) next;
+      places = c.put.ensures.1 i refl ∙ ap (λ (l : List (Option TableEntry)). set l i (Some e)) (s.places ∙ ap (λ k. filled i k e) one) ∙ filled_one i (n - (i + 1)) e ∙ ap (λ k. filled k (n - (i + 1)) e) next;
       begin = c.put.ensures.0 ∙ s.begin;
     }
 
-all_filled : (i n : ℕ) (e : Entry) (cs : List (Option Entry)) → cs ≡ filled i (n - i) e → i ≡ n → cs ≡ filled n 0 e
+all_filled : (i n : ℕ) (e : TableEntry) (cs : List (Option TableEntry)) → cs ≡ filled i (n - i) e → i ≡ n → cs ≡ filled n 0 e
 all_filled i n e cs h same = let none : n - i ≡ 0 = omega arith in h ∙ ap (λ k. filled i k e) none ∙ ap (λ k. filled k 0 e) same
 
 pub invariant_of-result : goal.invariant_of-result

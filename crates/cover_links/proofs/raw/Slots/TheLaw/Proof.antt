@@ -4,7 +4,7 @@ use denote.Param.Shared.{copy_shared}
 use denote.Struct.Laws.{field_copy}
 use denote.Struct.Lending.{of_Lends}
 use Rattle.core.specs.contracts.marker.PhantomData as marker
-use Rattle.cover_links.proofs.entry.Entry.TheLaws.{the_within}
+use Rattle.cover_links.proofs.entry.TableEntry.TheLaws.{the_within}
 use Rattle.cover_links.specs.contracts.raw.Slots as row
 use Rattle.cover_links.proofs.raw.Slots.TheLaw.Statement.{statement}
 use Rattle.cover_links.proofs.LentRows.{slots_lent_laws, lends_slots}

@@ -27,9 +27,9 @@ use borrow.Table.OneValue.{part_in}
 use Rattle.std.proofs.VecSteps.Shapes.{after}
 use Rattle.std_alloc.proofs.RcSteps.{word-Good}
 use Rattle.cover_links.specs.declared.raw.Slots.{Slots}
-use Rattle.cover_links.specs.contracts.entry.Entry as row
-use Rattle.cover_links.proofs.entry.Entry.TheLaws as entry
-use Rattle.cover_links.specs.contracts.raw.Slots.{the_row as Row}
+use Rattle.cover_links.specs.contracts.entry.TableEntry as row
+use Rattle.cover_links.proofs.entry.TableEntry.TheLaws as entry
+use Rattle.cover_links.specs.contracts.raw.Slots.{the_row as BlockRow}
 use Rattle.cover_links.specs.contracts.raw.Base.{the_row as Start}
 use Rattle.cover_links.proofs.raw.Base.TheLaws as start
 use Rattle.cover_links.specs.Ownership.{entry_type, entry_size, slot_own, slots_own, row_own}
@@ -39,20 +39,20 @@ use Rattle.cover_links.proofs.raw.Slots.put.Statement.{statement}
 use Rattle.cover_links.proofs.raw.Slots.put.Code as code
 
 abbrev stayed : Stays f.ended.signature.params f.ended.kept
-stayed = (stay_ref (0 ∷ []) tt (plain (λ _. Row)), (stay_dropped (plain (λ _. Start)) yes, (stay_dropped (plain (λ _. usize)) yes, (stay_dropped (plain (λ _. row.the_row)) yes, tt))))
+stayed = (stay_ref (0 ∷ []) tt (plain (λ _. BlockRow)), (stay_dropped (plain (λ _. Start)) yes, (stay_dropped (plain (λ _. usize)) yes, (stay_dropped (plain (λ _. row.the_row)) yes, tt))))
 
 pub put_spec : {M : Type 1} → statement M
 put_spec 𝓤 𝓛 𝓜 𝓡 wired =
     let c = f.clauses 𝓛 𝓜.mem 𝓡.returns in let W = walk_of 𝓛 f.ended stayed c in let 𝓣 = tables 𝓤 𝓛.H 𝓜 𝓡 𝓡.env in
     proved 𝓛 f.ended stayed c 𝓜 𝓡
-    (Goes-ref 𝓛 1 0 tt (plain (λ _. Row)), (Goes-dropped 𝓛 1 (plain (λ _. Start)) yes (λ κs x w. refl), (Goes-dropped 𝓛 1 (plain (λ _. usize)) yes (λ κs x w. refl), (Goes-dropped 𝓛 1 (plain (λ _. row.the_row)) yes (λ κs x w. refl), tt))))
+    (Goes-ref 𝓛 1 0 tt (plain (λ _. BlockRow)), (Goes-dropped 𝓛 1 (plain (λ _. Start)) yes (λ κs x w. refl), (Goes-dropped 𝓛 1 (plain (λ _. usize)) yes (λ κs x w. refl), (Goes-dropped 𝓛 1 (plain (λ _. row.the_row)) yes (λ κs x w. refl), tt))))
     f.Key.name code.function (code.unfolded 𝓤 𝓛.H 𝓜 𝓡 wired)
-    (λ κs. (mut_vals, ((λ s. start.lowered s ∷ []), (uint_vals w64, ((λ e. entry.lowered e ∷ []), tt))))) (λ κs. (mut_Tells (named 0) κs.0 Row, ((start.lowers).val_is, (uint_Tells w64, ((entry.lowers).val_is, tt))))) (λ κs qs bounds a _ are.
+    (λ κs. (mut_vals, ((λ s. start.lowered s ∷ []), (uint_vals w64, ((λ e. entry.lowered e ∷ []), tt))))) (λ κs. (mut_Tells (named 0) κs.0 BlockRow, ((start.lowers).val_is, (uint_Tells w64, ((entry.lowers).val_is, tt))))) (λ κs qs bounds a _ are.
     let κ = κs.0 in let q = qs.0 in let d = a.0.now in let base = a.1.0 in let n = a.1.1.0 in let e = a.1.1.1.0 in let rb = a.0.ref_ptr.0 in let ro = a.0.ref_ptr.1 in
     let v = entry.lowered e in let vss : List Val × (List Val × (List Val × (List Val × Unit {0}))) = (mut_vals a.0, (start.lowered base ∷ [], (uint_vals w64 n, (v ∷ [], tt)))) in
     let y : W.Ghost = ((κs, qs, bounds, a, vss), tt) in
     let good = ((laws.lawful row.the_type entry.the_laws 𝓛).typed e (v ∷ []) are.1.1.1.0).0 in
-    qed 𝓛 (((‵ (flft κ q) ⊛ ‵ ftrue) ⊛ ‵ (owns (MutRef (named 0) κ Row ∷ Start ∷ usize ∷ row.the_row ∷ []) a vss)) ∷ raw (fact 𝓤 ((base.ptr ≡ d.at) × ((i : ℕ) × (n ≡ i * entry_size) × (i < length d.slots)))) ∷ []) ∵
+    qed 𝓛 (((‵ (flft κ q) ⊛ ‵ ftrue) ⊛ ‵ (owns (MutRef (named 0) κ BlockRow ∷ Start ∷ usize ∷ row.the_row ∷ []) a vss)) ∷ raw (fact 𝓤 ((base.ptr ≡ d.at) × ((i : ℕ) × (n ≡ i * entry_size) × (i < length d.slots)))) ∷ []) ∵
     split ! $ split ! $ move ! (3 ∷ []) $ heard ! _ (λ asked.
     let i = asked.1.0 in let far = asked.1.1 in let within = asked.1.2 in
     let new : Slots = record d { slots = set d.slots i (Some e) } in
@@ -60,7 +60,7 @@ put_spec 𝓤 𝓛 𝓜 𝓡 wired =
     keep ! (4 ∷ 5 ∷ 6 ∷ 0 ∷ []) $
     -- [what the borrow is seen at; the borrow; the token; what the entry owns]
     enter ! _ _ _ _ _ $ alloc_all ! (λ l. pass_all ! refl ((tt, tt), (word-Good [] base.ptr, ((tt, record { fits = are.1.1.0.1 }), (good, tt)))) $
-    opens ! tt Row {h = d} rb ro (λ us. move ! (1 ∷ []) $ fsplit ! $ move ! (1 ∷ []) $
+    opens ! tt BlockRow {h = d} rb ro (λ us. move ! (1 ∷ []) $ fsplit ! $ move ! (1 ∷ []) $
     in_a_block ! d.at (λ p. row_own p d.slots) (id⊢ 𝓤 (never 𝓤)) (λ b o at. fsplit ! $ flt_l ! (λ small.
     take_at ! 2 $ rewrite ! 0 (λ (p : Ptr). ‵ (fat full_share start.mir (l 2) 0 (start.lowered (record { ptr = p })))) (asked.0 ∙ at) refl $ give_at ! 2 $ first ! $ blocks ! $
     sets ! (of_opd ! (get_in ! (fld ! refl (stop !)) (sub ! 0 refl (whole !)))) refl (tt, tt) $
@@ -76,7 +76,7 @@ put_spec 𝓤 𝓛 𝓜 𝓡 wired =
     rewrite ! 0 (λ (k : ℕ). ‵ (slot_own b (k + o) (Some e))) far refl $
     use2 𝓛 (‵ (slots_own b o new.slots)) (place_in 𝓛 b o d.slots i (Some e) within) $
     flt_i ! (length new.slots * entry_size) (2 ^ 63) (subst (λ k. k * entry_size < 2 ^ 63) (sym (length-set d.slots i (Some e))) small) $ fjoin ! $
-    rewrite ! 0 (λ (p : Ptr). ‵ (row_own p new.slots)) (sym at) refl $ move ! (1 ∷ 0 ∷ []) $ fjoin ! $ move ! (1 ∷ 0 ∷ []) $ closes ! tt Row new us rb ro $
+    rewrite ! 0 (λ (p : Ptr). ‵ (row_own p new.slots)) (sym at) refl $ move ! (1 ∷ 0 ∷ []) $ fjoin ! $ move ! (1 ∷ 0 ∷ []) $ closes ! tt BlockRow new us rb ro $
     returns ! (look_at ! 0 refl) $ free_all ! refl $ keep ! (0 ∷ 1 ∷ 2 ∷ []) $ feq_i ! (List Val) (vunit ∷ []) (vunit ∷ []) refl $ move ! (1 ∷ 2 ∷ 3 ∷ 0 ∷ []) $
     suffices ! _ (ends_at 𝓛 f.ended stayed c y vunit tt (new, (tt, (tt, (tt, tt)))) (tt, (tt, (tt, (tt, tt))))) $ says ! (refl, λ j there. ap (λ k. set d.slots k (Some e)) (same_place i j (sym far ∙ there))) $
     nothing ! $ move ! (3 ∷ 0 ∷ []) $ join ! $ frame ! $ feq_i ! (List Val) (mut_vals a.0) (mut_vals a.0) refl $ fjoin3 ! $ nothing ! $ nothing ! $ fjoin ! $ nothing ! $ fjoin ! $ nothing ! $ fjoin ! $ move ! (1 ∷ 0 ∷ []) $ fjoin ! $ done !)))))))

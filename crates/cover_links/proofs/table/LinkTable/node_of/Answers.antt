@@ -1,5 +1,5 @@
 use Rattle.std.proofs.Common.{◌≡◌, ◌-◌, ◌*◌, ◌<◌, suc, refl, sym, ap, ◌∙◌, arith}
-use Rattle.cover_links.specs.declared.entry.Entry.{Entry}
+use Rattle.cover_links.specs.declared.entry.TableEntry.{TableEntry}
 use Rattle.cover_links.specs.Layout.{node_index, spacer_of}
 use Rattle.cover_links.proofs.HidingLemmas.{top_at}
 use Rattle.cover_links.proofs.TableLemmas.{at_view, seen_at, block_small, start_is, place_from, place_below, spacer_inside, item_small, not_past, is_past, top_here, item_here}
@@ -52,7 +52,7 @@ keeps c behind =
     let t = at_view c.self.view_is c.self.invariant in let at = c.loop-self.invariant in
     let item = item_here t c.args.item c.args.option c.requires.some c.requires.within c.requires.has_item at.0 at.2 (is_before c) in
     let here = top_here t c.args.item c.args.option c.requires.some c.requires.within c.requires.has_item in
-    let read = ap (λ (e : Entry). e.top) (c.read_at-in-loop-self.ensures at.0 at.1) in
+    let read = ap (λ (e : TableEntry). e.top) (c.read_at-in-loop-self.ensures at.0 at.1) in
     elim c.if-is.branch [
       | then-is w ↦
           let top : top_at c.self.inside.block at.0 ≡ c.args.item = sym read ∙ c.is.ensures.same w.if-is.true ∙ c.at-head.ensures in

@@ -1,5 +1,5 @@
 use Rattle.std.proofs.Common.{◌≡◌, ℕ, ◌*◌, ◌/◌, ◌<◌, inr, refl, sym, ap, ◌∙◌, subst, arith}
-use Rattle.cover_links.specs.declared.entry.Entry.{Entry}
+use Rattle.cover_links.specs.declared.entry.TableEntry.{TableEntry}
 use Rattle.cover_links.specs.StandsFor.{block_of}
 use Rattle.cover_problem.specs.Problem.{size_of}
 use Rattle.cover_problem.specs.Covering.{choice}
@@ -22,7 +22,7 @@ loop-self-init c =
     let first = right_at (block_of c.args.self.now.problem c.args.self.now.covered) 0 in
     let at : c.head_after-here.result ≡ first * 16 = c.head_after-here.ensures 0 refl in
     let len : c.read_at-len.result.top ≡ top_at (block_of c.args.self.now.problem c.args.self.now.covered) first =
-    ap (λ (e : Entry). e.top) (c.read_at-len.ensures first at) ∙ ap (λ es. top_at es first) t.block_is in
+    ap (λ (e : TableEntry). e.top) (c.read_at-len.ensures first at) ∙ ap (λ es. top_at es first) t.block_is in
     (first, first, at, at, len, subst (ComesTo c.args.self.now.problem c.args.self.now.covered first first) (sym len) (begins t refl c.requires.«open»))
 
 pub head_after-here-requires-in-loop-self : goal.head_after-here-requires-in-loop-self
@@ -55,7 +55,7 @@ loop-self-preserved c =
     let next = right_at (block_of p d) inv.0 in
     let at : c.head_after-here-in-loop-self.result ≡ next * 16 = c.head_after-here-in-loop-self.ensures inv.0 inv.2 in
     let len : c.read_at-len-in-loop-self.result.top ≡ top_at (block_of p d) next =
-    ap (λ (e : Entry). e.top) (c.read_at-len-in-loop-self.ensures next at) ∙ ap (λ es. top_at es next) t.block_is in
+    ap (λ (e : TableEntry). e.top) (c.read_at-len-in-loop-self.ensures next at) ∙ ap (λ es. top_at es next) t.block_is in
     let here = inv.4 in
     elim c.if-is_below.branch [
       | then-is_below w ↦

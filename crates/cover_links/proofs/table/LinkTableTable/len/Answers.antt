@@ -1,5 +1,5 @@
 use Rattle.std.proofs.Common.{ap, ◌∙◌}
-use Rattle.cover_links.specs.declared.entry.Entry.{Entry}
+use Rattle.cover_links.specs.declared.entry.TableEntry.{TableEntry}
 use Rattle.cover_links.proofs.TableLemmas.{at_view, item_low, length_is}
 use Rattle.cover_links.proofs.table.LinkTableTable.len.Goals as goal
 
@@ -7,4 +7,4 @@ pub read-requires : goal.read-requires
 read-requires c = item_low (at_view c.self.view_is c.self.invariant) c.args.item c.requires.within
 
 pub returns : goal.returns
-returns c = c.index.ensures ∙ ap (λ (e : Entry). e.top) c.read.ensures ∙ length_is (at_view c.self.view_is c.self.invariant) c.args.item c.requires.some c.requires.within
+returns c = c.index.ensures ∙ ap (λ (e : TableEntry). e.top) c.read.ensures ∙ length_is (at_view c.self.view_is c.self.invariant) c.args.item c.requires.some c.requires.within

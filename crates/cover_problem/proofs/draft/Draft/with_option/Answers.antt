@@ -2,7 +2,7 @@ use Rattle.std.proofs.Common.{◌≡◌, ◌+◌, ◌∙◌, ℕ, List, Ok, [], 
 use Rattle.std.proofs.lemmas.List.{take-append-le, take_all}
 use Rattle.text_lines.specs.Lines.{words_of}
 use Rattle.cover_problem.specs.Validation.{within}
-use Rattle.cover_problem.specs.Views.{bytes_of, problem_of_parts}
+use Rattle.cover_problem.specs.Views.{name_bytes, problem_of_parts}
 use Rattle.cover_problem.specs.Problem.{problem_with}
 use Rattle.cover_problem.proofs.ReadingLemmas.{some_words, option_taken}
 use Rattle.cover_problem.proofs.draft.Draft.with_option.Goals as goal
@@ -24,4 +24,4 @@ returns c =
     let line = option_taken (problem_of_parts old.names.keys old.primary old.options) words c.take_option.new.taken.items
     (some_words words c.has_words.result c.has_words.ensures c.in_ok-told.ensures.holds) (ne_eqb _ _ (λ e. let some = ltb-true 0 old.primary c.in_ok-told-2.ensures.holds in omega (arith, e))) c.in_ok-take_option.ensures.option in
     rw (← c.self.view_is, line)
-    (subst (λ (options : List (List ℕ)). within (problem_with (bytes_of old.names.keys) old.primary options) ≡ Ok c.in_ok-within.field-0) more c.in_ok-within.ensures)
+    (subst (λ (options : List (List ℕ)). within (problem_with (name_bytes old.names.keys) old.primary options) ≡ Ok c.in_ok-within.field-0) more c.in_ok-within.ensures)

@@ -1,6 +1,6 @@
 use Rattle.std.proofs.Common.{◌≡◌, ℕ, List, ◌-◌, [], length, take, drop, get_or, ◌∙◌, sym, ap, subst, arith}
 use Rattle.packed_rows.specs.Numbers.{numbers_of, IsSpelled}
-use Rattle.packed_rows.specs.Pieces.{row_bytes, ArePlaces}
+use Rattle.packed_rows.specs.Pieces.{row_bytes, AreSpans}
 use Rattle.cover_problem.specs.FlatLists.{start_at}
 use Rattle.packed_rows.specs.Rows.{RowsValue}
 use Rattle.cover_problem.proofs.FlatListLemmas.{same_default}
@@ -35,7 +35,7 @@ placed-requires c =
     let s : c.start_of-start.result ≡ start_at 0 p.ends.items c.args.place = c.start_of-start.ensures ∙ ap (λ l. start_at 0 l c.args.place) c.deref.ensures.value in
     let e = c.index.ensures ∙ same_default p.ends.items c.args.place c.index.result.now 0 r.end in
     let same = c.part-places.ensures ∙ (λ j. take (e j - s j) (drop (s j) (c.deref-2.ensures.value j))) ∙ sym r.list.list in
-    subst (λ (w : List ℕ × List ℕ). ArePlaces (length w.0) w.1) (λ j. (sym c.deref-3.ensures.value j, sym same j)) r.placed
+    subst (λ (w : List ℕ × List ℕ). AreSpans (length w.0) w.1) (λ j. (sym c.deref-3.ensures.value j, sym same j)) r.placed
 
 pub of-requires : goal.of-requires
 of-requires c =

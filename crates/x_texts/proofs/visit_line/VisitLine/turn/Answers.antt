@@ -1,5 +1,5 @@
 use Rattle.std.proofs.Common.{ℕ, ◌≤◌, List, take, length, sym, ap, ◌∙◌, subst, arith}
-use Rattle.x_texts.specs.Ends.{IsVisitLine, HasRoom, HoldsLine}
+use Rattle.x_texts.specs.Ends.{IsVisitLine, LineHasRoom, HoldsLine}
 use Rattle.x_texts.proofs.EndLemmas.{longer, alike, written_back}
 use Rattle.x_texts.proofs.visit_line.VisitLine.turn.Goals.{then-len-path+in_ok-widen+in_ok-widen-2+in_ok-widen-3, else-len-path, After-deref_mut-3}
 use Rattle.x_texts.proofs.visit_line.VisitLine.turn.Goals as goal
@@ -40,7 +40,7 @@ put_rest-requires-clause-first_ones c =
 
 pub put_rest-requires-clause-room : goal.put_rest-requires-clause-room
 put_rest-requires-clause-room c =
-    subst (λ (w : List ℕ × (List ℕ × List ℕ)). HasRoom w.0 w.1.0 w.1.1) (λ j. (sym c.deref_mut.ensures.value j, (sym c.deref_mut-2.ensures.value j, sym c.deref_mut-3.ensures.value j)))
+    subst (λ (w : List ℕ × (List ℕ × List ℕ)). LineHasRoom w.0 w.1.0 w.1.1) (λ j. (sym c.deref_mut.ensures.value j, (sym c.deref_mut-2.ensures.value j, sym c.deref_mut-3.ensures.value j)))
     (holds c).room
 
 pub invariant_of-self-2 : goal.invariant_of-self-2

@@ -2,7 +2,7 @@ use Rattle.std.proofs.Common.{◌<◌, length, length-set, set, ap, subst, sym, 
 use Rattle.cover_links.specs.Slots.{values, IsFull}
 use Rattle.cover_links.specs.Row.{RowValue, place}
 use Rattle.cover_links.proofs.FullRows.{full_length, full_set, set_full}
-use Rattle.cover_links.proofs.block.Row.write_at.Goals as goal
+use Rattle.cover_links.proofs.block.BlockRow.write_at.Goals as goal
 
 pub put-requires : goal.put-requires
 put-requires c =

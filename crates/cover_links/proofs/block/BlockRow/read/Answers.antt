@@ -1,4 +1,4 @@
-use Rattle.cover_links.proofs.block.Row.read.Goals as goal
+use Rattle.cover_links.proofs.block.BlockRow.read.Goals as goal
 
 pub read_at-requires-clause-within : goal.read_at-requires-clause-within
 read_at-requires-clause-within c = (c.args.offset, c.bytes.ensures, c.requires.within)

@@ -4,7 +4,7 @@ use Rattle.cover_links.specs.Entries.{entry_at}
 use Rattle.cover_links.specs.Row.{RowValue}
 use Rattle.cover_links.proofs.FullRows.{full_get}
 use Rattle.cover_links.proofs.SlotRows.{same_place}
-use Rattle.cover_links.proofs.block.Row.read_at.Goals as goal
+use Rattle.cover_links.proofs.block.BlockRow.read_at.Goals as goal
 
 pub get-requires : goal.get-requires
 get-requires c =

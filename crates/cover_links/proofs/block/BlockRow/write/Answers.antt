@@ -1,4 +1,4 @@
-use Rattle.cover_links.proofs.block.Row.write.Goals as goal
+use Rattle.cover_links.proofs.block.BlockRow.write.Goals as goal
 
 pub write_at-requires-clause-within : goal.write_at-requires-clause-within
 write_at-requires-clause-within c = (c.args.offset, c.bytes.ensures, c.requires.within)

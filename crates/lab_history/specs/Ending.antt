@@ -1,13 +1,13 @@
--- How a lease is ended at a desk: by which call (`call_of_end`), and whether its tile stays at its mark (`is_at_mark`): then the book needs
+-- How a lease is ended: by which call (`call_of_end`), and whether its tile stays at its mark (`is_at_mark`): then the book needs
 -- no memory to end the tile's current lease.
 --
--- Example: a worker that parks ends its lease by a park, at the tile's mark; one that closes doesn't. proofs/DeskExamples.antt computes it.
+-- Example: a worker that parks ends its lease by a park, at the tile's mark; one that closes doesn't. proofs/HistoryExamples.antt computes it.
 use Rattle.std.specs.Prelude.{Bool, true, false}
 use Rattle.lab_history.specs.declared.grant.Grant.{Grant}
 use Rattle.lab_history.specs.declared.entry.Call.{Call}
 use Rattle.lab_history.specs.declared.entry.Call.TheVariants as call
-use Rattle.lab_desk.specs.declared.desk.ends.Ending.{Ending}
-use Rattle.lab_desk.specs.declared.desk.ends.Ending.TheVariants as ending
+use Rattle.lab_history.specs.declared.ending.Ending.{Ending}
+use Rattle.lab_history.specs.declared.ending.Ending.TheVariants as ending
 
 -- the call by which a lease is ended so
 abbrev pub call_of_end : Ending → Grant → Call

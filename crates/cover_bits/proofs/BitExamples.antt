@@ -1,7 +1,7 @@
 -- The examples of the definitions, computed on the row 5 0 2 and on the small problem: c e, a d g, b c f, a d f, b g and d e g.
 use Rattle.std.proofs.Common.{◌≡◌, ℕ, List, [], ◌∷◌, refl, lit≤, arith, filter}
 use Rattle.std.specs.Int.Count.{ones}
-use Rattle.cover_problem.specs.Lists.{numbers}
+use Rattle.shared_words.specs.Lists.{numbers}
 use Rattle.cover_problem.proofs.CoverExamples.{small}
 use Rattle.cover_bits.specs.declared.sets.Part.{Part}
 use Rattle.cover_bits.specs.Parts.{words_for, in_row, in_parts, in_both, ones_of_both, shared_from, shared_below, to_come}

@@ -2,7 +2,7 @@
 use Rattle.std.proofs.Common.{◌≡◌, ℕ, ◌+◌, ◌==◌, not, ◌&&◌, Option, Some, None, option_map, List, refl, sym, ◌∙◌, arith, subst}
 use Rattle.std.specs.Prelude.{IfSome}
 use Rattle.std.proofs.lemmas.Bool.{le-leb}
-use Rattle.cover_problem.specs.Lists.{above}
+use Rattle.shared_words.specs.Lists.{above}
 use Rattle.cover_problem.specs.Covering.{active}
 use Rattle.cover_problem.specs.Problem.{ProblemValue}
 use Rattle.cover_problem.specs.Table.{TableValue}

@@ -6,7 +6,7 @@ use Rattle.std.proofs.lemmas.Bool.{eq-eqb, ne_eqb, and_left, or_from, false_from
 use Rattle.std.proofs.lemmas.List.Sums.{sum_by-cons}
 use Rattle.std.proofs.lemmas.Nat.{ones_cat, and_le_l}
 use Rattle.std.proofs.lemmas.Nat.Bits.{bit_at-suc, bit_at_lowest}
-use Rattle.cover_problem.specs.Lists.{numbers}
+use Rattle.shared_words.specs.Lists.{numbers}
 use Rattle.cover_bits.specs.declared.sets.Part.{Part}
 use Rattle.cover_bits.specs.Parts.{in_word, in_row, in_part, in_parts, in_both, ArePlaced, shared, ones_of_both}
 use Rattle.cover_bits.proofs.PartLemmas.{in_word_and, placed_in}

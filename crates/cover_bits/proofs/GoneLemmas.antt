@@ -2,7 +2,7 @@
 use Rattle.std.proofs.Common.{◌≡◌, ℕ, suc, ◌+◌, ◌-◌, ◌*◌, ◌<◌, ◌≤◌, ◌⊎◌, nat_lt, Bool, true, false, not, ◌&&◌, List, [], ◌∷◌, length, filter, refl, sym, ap, ◌∙◌, inl, inr, arith, All}
 use Rattle.std.proofs.lemmas.Bool.{cases_lt, cases_eq, cases_order, lt-ltb, le-ltb, and_parts, and_from, and_left, and_right, both_ways, false_from_ne_true}
 use Rattle.std.proofs.lemmas.List.Elements.{All-from_get_or}
-use Rattle.cover_problem.specs.Lists.{has, RisesFrom}
+use Rattle.shared_words.specs.Lists.{has, RisesFrom}
 use Rattle.cover_problem.proofs.MemberLemmas.{has_here, has_later, has_cases}
 use Rattle.cover_problem.proofs.NumberLemmas.{rises_member}
 use Rattle.cover_bits.specs.declared.lists.ItemList.{ItemList}

@@ -5,7 +5,7 @@ use Rattle.std.proofs.lemmas.Bool.{cases_lt, lt-ltb, le-ltb, and_left, and_right
 use Rattle.std.proofs.lemmas.List.{get_or-take, get_or-drop, get_or_past}
 use Rattle.std.proofs.lemmas.List.Sums.{prefix_len-le-length}
 use Rattle.std.specs.Prelude.{Option, None, option_map, IfSome}
-use Rattle.cover_problem.specs.Lists.{has, are_distinct, above, below, last_of}
+use Rattle.shared_words.specs.Lists.{has, are_distinct, above, below, last_of}
 use Rattle.cover_problem.specs.Problem.{ProblemValue, option_at, is_item}
 use Rattle.cover_problem.specs.Covering.{is_remaining, remaining, list_of, active}
 use Rattle.cover_problem.specs.Table.{TableValue}

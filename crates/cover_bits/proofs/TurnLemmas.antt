@@ -4,7 +4,7 @@ use Rattle.std.specs.List.{list_all}
 use Rattle.std.proofs.lemmas.Bool.{cases_lt, cases_eq, lt-ltb, le-ltb, eq-eqb, ne_eqb, and_left, and_parts, false_from_ne_true}
 use Rattle.std.proofs.lemmas.List.{take-append-le, take-append-drop, get_or-set_same, get_or-set_other}
 use Rattle.std.proofs.lemmas.List.Folds.{list_all-append}
-use Rattle.cover_problem.specs.Lists.{has}
+use Rattle.shared_words.specs.Lists.{has}
 use Rattle.cover_problem.specs.Problem.{ProblemValue, is_item}
 use Rattle.cover_problem.specs.Coverable.{IsUncovered}
 use Rattle.cover_problem.specs.Table.{IsCoveredList}

@@ -6,7 +6,7 @@
 -- the column of a. What it shares with the column of d is the option 6. proofs/BitExamples.antt computes it.
 use Rattle.std.specs.Prelude.{ℕ, ◌≡◌, ◌<◌, ◌≤◌, ◌+◌, ◌-◌, ◌*◌, ◌^◌, min, nat_lt, Bool, true, not, ◌&&◌, List, [], length, take, drop, map, slice_index_or}
 use Rattle.std.specs.List.{list_any, list_all, All}
-use Rattle.cover_problem.specs.Lists.{has, numbers, RisesFrom}
+use Rattle.shared_words.specs.Lists.{has, numbers, RisesFrom}
 use Rattle.cover_problem.specs.Problem.{ProblemValue, IsProblem, option_at, is_item}
 use Rattle.cover_problem.specs.Table.{IsCoveredList}
 use Rattle.cover_bits.specs.declared.lists.ItemList.{ItemList}

@@ -1,7 +1,7 @@
 //! The table whose lists are bit sets of options.
 ghost use Rattle.std.specs.Prelude.{◌≡◌, ◌<◌, ◌≤◌, ◌+◌, ◌-◌, ◌*◌, ◌^◌, ◌&&◌, ◌||◌, ◌==◌, not, true, false, ℕ, List, [], ◌∷◌, ◌++◌, length, take, option_map, vec_capacity, Some};
 ghost use Rattle.std.specs.List.{position_or_len, before_first};
-ghost use Rattle.cover_problem.specs.Lists.{has, are_distinct};
+ghost use Rattle.shared_words.specs.Lists.{has, are_distinct};
 ghost use Rattle.cover_problem.specs.Covering.{list_of};
 ghost use Rattle.cover_bits.specs.Parts.{words_for, in_row};
 ghost use Rattle.cover_bits.specs.Bits.{AreLeftBut, IsListOf};

@@ -1,7 +1,7 @@
 -- A node that is appended to its list: the block stands for one node more.
 use Rattle.std.proofs.Common.{◌≡◌, ℕ, zero, suc, ◌+◌, ◌*◌, ◌<◌, ◌≤◌, ◌^◌, ◌⊎◌, inl, inr, Bool, true, unwrap_or, List, [], ◌∷◌, length, length-set, filter, set, refl, sym, ap, ◌∙◌, subst, arith}
 use Rattle.std.proofs.lemmas.Bool.{cases_eq, cases_lt}
-use Rattle.cover_problem.specs.Lists.{numbers, last_of}
+use Rattle.shared_words.specs.Lists.{numbers, last_of}
 use Rattle.cover_problem.specs.Problem.{ProblemValue, IsProblem, size_of}
 use Rattle.cover_links.specs.declared.entry.TableEntry.{TableEntry}
 use Rattle.cover_links.specs.Entries.{entry_at, low_half, high_half, next_bytes, changed, one_more, to_up, to_down, relinked}

@@ -3,7 +3,7 @@ use Rattle.std.proofs.Common.{◌≡◌, ℕ, inl, ◌==◌, nat_lt, nat_le, Boo
 use mathlib.Core.List.{reverse-cons}
 use Rattle.std.specs.List.{before_first}
 use Rattle.std.proofs.lemmas.Bool.{and_from, lt-ltb, le-leb}
-use Rattle.cover_problem.specs.Lists.{has, numbers}
+use Rattle.shared_words.specs.Lists.{has, numbers}
 use Rattle.cover_problem.specs.Problem.{ProblemValue, IsProblem, option_at}
 use Rattle.cover_problem.specs.Covering.{active, remaining, is_remaining, list_of}
 use Rattle.cover_problem.specs.Coverable.{IsUncovered}

@@ -2,7 +2,7 @@
 use Rattle.std.proofs.Common.{◌≡◌, ℕ, ◌+◌, ◌*◌, ◌<◌, ◌≤◌, ◌⊎◌, inl, inr, Bool, true, false, unwrap_or, List, [], ◌∷◌, ◌++◌, length, filter, refl, sym, ap, ◌∙◌, subst, arith}
 use Rattle.std.specs.Cmp.{both_ways as same_test}
 use Rattle.std.proofs.lemmas.Bool.{cases_eq, cases_lt}
-use Rattle.cover_problem.specs.Lists.{has, numbers, above, below}
+use Rattle.shared_words.specs.Lists.{has, numbers, above, below}
 use Rattle.cover_problem.specs.Problem.{ProblemValue, IsProblem}
 use Rattle.cover_problem.specs.Coverable.{IsUncovered}
 use Rattle.cover_problem.proofs.MemberLemmas.{has_filter, has_filter_in}

@@ -3,7 +3,7 @@ use Rattle.std.proofs.Common.{◌≡◌, ℕ, suc, ◌<◌, ◌≤◌, ◌⊎◌
 use Rattle.std.specs.List.{list_any, before_first}
 use Rattle.std.specs.Cmp.{both_ways as same_test}
 use Rattle.std.proofs.lemmas.Bool.{and_parts, and_from, cases_eq, cases_Bool, not-true, not_from_false, both_ways, false≢true, eq-eqb, ltb-true, leb-true, lt-ltb, le-leb, ne_eqb}
-use Rattle.cover_problem.specs.Lists.{has, are_distinct, RisesFrom}
+use Rattle.shared_words.specs.Lists.{has, are_distinct, RisesFrom}
 use Rattle.cover_problem.specs.Problem.{ProblemValue, option_at}
 use Rattle.cover_problem.specs.Covering.{is_remaining}
 use Rattle.cover_problem.proofs.MemberLemmas.{has_cases, has_here, has_append_cases, has_append_left, has_append_right, has_append_not, has_append_not_from, has_not_from, none_member, none_from}

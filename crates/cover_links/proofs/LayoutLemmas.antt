@@ -3,7 +3,7 @@ use Rattle.std.proofs.Common.{◌≡◌, ℕ, zero, suc, ◌+◌, ◌-◌, ◌<�
 use Rattle.std.specs.List.{before_first, after_first, slice_index_or}
 use Rattle.std.proofs.lemmas.List.Sums.{sum_by-cons}
 use Rattle.std.proofs.lemmas.Bool.{cases_lt, both_ways}
-use Rattle.cover_problem.specs.Lists.{has, are_distinct}
+use Rattle.shared_words.specs.Lists.{has, are_distinct}
 use Rattle.cover_problem.specs.Problem.{ProblemValue, IsProblem, option_at, size_of}
 use Rattle.cover_problem.proofs.MemberLemmas.{has_here}
 use Rattle.cover_problem.proofs.PartLemmas.{before_here, parts_are, distinct_parts}

@@ -1,7 +1,7 @@
 -- Hiding the options of an item's list, from the first one down, and the way back from the last one up.
 use Rattle.std.proofs.Common.{◌≡◌, ℕ, zero, suc, ◌+◌, ◌<◌, ◌≤◌, ◌⊎◌, inl, inr, Bool, true, false, List, [], ◌∷◌, length, filter, refl, sym, ap, ◌∙◌, subst, arith}
 use Rattle.std.proofs.lemmas.Bool.{cases_eq, cases_Bool, cases_lt, both_ways, false≢true}
-use Rattle.cover_problem.specs.Lists.{has, are_distinct, numbers}
+use Rattle.shared_words.specs.Lists.{has, are_distinct, numbers}
 use Rattle.cover_problem.specs.Problem.{ProblemValue, IsProblem, option_at}
 use Rattle.cover_problem.proofs.MemberLemmas.{has_cases, has_here, has_later}
 use Rattle.cover_links.specs.declared.entry.TableEntry.{TableEntry}

@@ -1,7 +1,7 @@
 -- An option that is appended: its nodes come into their lists, and the spacer past it. The block stands for one option more.
 use Rattle.std.proofs.Common.{◌≡◌, ℕ, zero, suc, ◌+◌, ◌-◌, ◌<◌, ◌≤◌, ◌⊎◌, inl, inr, ◌==◌, nat_lt, nat_le, Bool, true, false, ◌&&◌, ◌||◌, List, [], ◌∷◌, ◌++◌, length, length-set, set, refl, sym, ap, ◌∙◌, subst, arith, append_assoc, append-nil}
 use Rattle.std.proofs.lemmas.Bool.{and_parts, and_from, or_cases, or_left, or_right, cases_eq, cases_lt, both_ways, false≢true, eqb-true, eq-eqb, ltb-true, leb-true, lt-ltb, le-leb}
-use Rattle.cover_problem.specs.Lists.{has, are_distinct}
+use Rattle.shared_words.specs.Lists.{has, are_distinct}
 use Rattle.cover_problem.specs.Problem.{ProblemValue, IsProblem, option_at, size_of}
 use Rattle.cover_problem.proofs.MemberLemmas.{has_here, has_append_cases, has_append_left, has_append_right, has_cases}
 use Rattle.cover_problem.proofs.PartLemmas.{distinct_parts}

@@ -1,7 +1,7 @@
 -- Lemmas on rings: each member has a next and a previous one, and what is left of a ring that a member leaves.
 use Rattle.std.proofs.Common.{◌≡◌, ℕ, zero, suc, ◌+◌, ◌<◌, ◌≤◌, ◌⊎◌, inl, inr, ◌==◌, Bool, true, false, not, ◌&&◌, Option, Some, None, unwrap_or, List, length, filter, refl, sym, ap, ◌∙◌, subst, arith}
 use Rattle.std.proofs.lemmas.Bool.{false≢true, and_parts, and_from, cases_Bool, cases_eq, cases_lt, eq-eqb, ne_eqb, not-true, not_from_false, both_ways}
-use Rattle.cover_problem.specs.Lists.{has, numbers, RisesFrom, above, below, last_of}
+use Rattle.shared_words.specs.Lists.{has, numbers, RisesFrom, above, below, last_of}
 use Rattle.cover_problem.proofs.MemberLemmas.{has_filter, has_filter_in, filter_agree_on}
 use Rattle.cover_problem.proofs.NumberLemmas.{has_numbers, has_numbers_in, rises_filter}
 use Rattle.cover_problem.proofs.RisingLemmas.{above_is, above_none, below_is, below_none, last_is, last_none}

@@ -1,7 +1,7 @@
 -- The walk that chooses an item, from head to head round the row of active items.
 use Rattle.std.proofs.Common.{◌≡◌, ℕ, zero, suc, ◌-◌, ◌<◌, ◌≤◌, ◌==◌, cond, ◌⊎◌, inl, inr, true, false, Some, None, List, length, refl, sym, ap, ◌∙◌, subst, arith}
 use Rattle.std.proofs.lemmas.Bool.{cases_lt, ne_eqb}
-use Rattle.cover_problem.specs.Lists.{has, above}
+use Rattle.shared_words.specs.Lists.{has, above}
 use Rattle.cover_problem.specs.Problem.{ProblemValue, size_of}
 use Rattle.cover_problem.specs.Covering.{active, remaining, choice}
 use Rattle.cover_problem.proofs.RisingLemmas.{above_is, above_none}

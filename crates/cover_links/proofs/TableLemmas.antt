@@ -2,7 +2,7 @@
 use Rattle.std.proofs.Common.{◌≡◌, ℕ, zero, suc, ◌+◌, ◌-◌, ◌*◌, ◌^◌, ◌<◌, ◌≤◌, ◌⊎◌, inl, inr, ◌==◌, Bool, true, false, Option, Some, None, unwrap_or, List, [], ◌∷◌, ◌++◌, length, length-append, filter, get_or, take, refl, sym, ap, ◌∙◌, subst, arith}
 use Rattle.std.proofs.lemmas.Bool.{eq-eqb, ne_eqb, cases_lt, false≢true, true≢false}
 use Rattle.std.proofs.Math.Seq.{take-append_seam}
-use Rattle.cover_problem.specs.Lists.{has, numbers, above, below, last_of}
+use Rattle.shared_words.specs.Lists.{has, numbers, above, below, last_of}
 use Rattle.cover_problem.specs.Problem.{ProblemValue, option_at, size_of}
 use Rattle.cover_problem.specs.Covering.{active, list_of}
 use Rattle.cover_problem.specs.Coverable.{IsUncovered}

@@ -1,10 +1,10 @@
 //! One raw block of entries. A clause sees it as the list of its entries.
 ghost use Rattle.std.specs.Prelude.{◌≡◌, ℕ, ◌*◌, ◌<◌, length, replicate, slice_set};
-ghost use Rattle.cover_problem.specs.Answers.{Returns};
+ghost use Rattle.shared_words.specs.Answers.{Returns};
 ghost use Rattle.cover_links.specs.Ownership.{entry_size, FitsInBlock};
 ghost use Rattle.cover_links.specs.Entries.{entry_at};
 
-use crate::entry::{TableEntry, Offset};
+use crate::entry::{Offset, TableEntry};
 use crate::raw::{Allocation, Base, Slots, allocate, deallocate};
 use std::alloc::{AllocError, Allocator, Global};
 use std::marker::Model;

@@ -1,6 +1,6 @@
 //! The block of a problem with nothing covered.
 ghost use Rattle.std.specs.Prelude.{◌≡◌, ◌<◌, ◌≤◌, ◌+◌, ◌-◌, ◌^◌, suc, length, IfOk};
-ghost use Rattle.cover_problem.specs.Answers.{Returns};
+ghost use Rattle.shared_words.specs.Answers.{Returns};
 ghost use Rattle.cover_links.specs.Fresh as list;
 ghost use Rattle.cover_links.specs.Fresh.{node_appended, option_appended, heads_written};
 ghost use Rattle.cover_links.specs.Layout as layout;
@@ -8,7 +8,7 @@ ghost use Rattle.cover_links.specs.Layout.{AreStarts};
 ghost use Rattle.cover_links.specs.Safety.{CanAppendNode, CanAppendOption};
 
 use crate::block::Block;
-use crate::entry::{TableEntry, Offset};
+use crate::entry::{Offset, TableEntry};
 use crate::hiding::append_to_list;
 use cover_problem::Problem;
 use std::alloc::{AllocError, Global};
@@ -141,7 +141,11 @@ pub(crate) fn fresh(alloc: Global, problem: &Problem, starts: &[u32]) -> Result<
     let items = problem.items();
     let options = problem.options();
     // The block is made at its full size: a block that grows would be copied.
-    let mut block = Block::make(alloc, starts[options as usize] as usize, TableEntry::blank())?;
+    let mut block = Block::make(
+        alloc,
+        starts[options as usize] as usize,
+        TableEntry::blank(),
+    )?;
     write_heads(&mut block, items, problem.primary());
     for k in 0..options {
         append_option(&mut block, starts[k as usize], problem.option(k + 1), k + 1);

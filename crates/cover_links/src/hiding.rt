@@ -7,7 +7,7 @@ ghost use Rattle.cover_links.specs.Hiding.{node_hidden, node_unhidden, hidden, u
 ghost use Rattle.cover_links.specs.Safety.{IsInside, IsItemInside, CanHideNode, CanUnhideNode, CanHide, CanUnhide, CanCoverItem, CanUncoverItem};
 
 use crate::block::{Block, BlockRow};
-use crate::entry::{TableEntry, Offset};
+use crate::entry::{Offset, TableEntry};
 use crate::raw::Base;
 
 /// Lets an entry's neighbours in its vertical list name each other.

@@ -10,5 +10,5 @@ mod raw;
 mod table;
 
 pub use block::Block;
-pub use entry::{TableEntry, Node, Offset};
+pub use entry::{Node, Offset, TableEntry};
 pub use table::LinkTable;

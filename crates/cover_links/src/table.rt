@@ -1,6 +1,6 @@
 //! The table whose lists are linked nodes.
 ghost use Rattle.std.specs.Prelude.{◌≡◌, ◌<◌, ◌≤◌, ◌+◌, ◌*◌, ◌⊎◌, ◌==◌, nat_lt, ◌&&◌, cond, List, true, ℕ, [], ◌∷◌, length, IfOk, OnOk};
-ghost use Rattle.cover_problem.specs.Lists.{has};
+ghost use Rattle.shared_words.specs.Lists.{has};
 ghost use Rattle.cover_problem.specs.Problem as problem;
 ghost use Rattle.cover_problem.specs.Problem.{IsProblem, size_of};
 ghost use Rattle.cover_problem.specs.Table.{IsCoveredList};
@@ -13,7 +13,7 @@ ghost use Rattle.cover_links.specs.Table as table;
 
 use crate::block::Block;
 use crate::build::{fresh, starts};
-use crate::entry::{TableEntry, Node, Offset};
+use crate::entry::{Node, Offset, TableEntry};
 use crate::hiding::{cover_item, uncover_item};
 use cover_problem::{Problem, Table};
 use std::alloc::{AllocError, Global};

@@ -3,7 +3,7 @@ use Rattle.std.proofs.Common.{◌≡◌, ℕ, zero, suc, ◌-◌, ◌<◌, ◌�
 use Rattle.std.specs.List.{list_all}
 use Rattle.std.proofs.lemmas.Bool.{and_parts, ltb-true, not-true, not_from_true, not_from_false}
 use Rattle.std.proofs.lemmas.List.Sums.{AllPass-from_list_all}
-use Rattle.cover_problem.specs.Lists.{has, are_distinct, numbers, RisesFrom}
+use Rattle.shared_words.specs.Lists.{has, are_distinct, numbers, RisesFrom}
 use Rattle.cover_problem.specs.Problem.{ProblemValue, IsProblem, is_item, is_option, option_at}
 use Rattle.cover_problem.specs.Covering.{uncovered, active}
 use Rattle.cover_problem.specs.Coverable.{IsUncovered}

@@ -7,7 +7,7 @@ use Rattle.std.proofs.lemmas.List.Folds.{list_any-append}
 use Rattle.std.proofs.lemmas.List.Sums.{AllPass-from_list_all}
 use Rattle.cover_problem.proofs.PartLemmas.{distinct_before}
 use Rattle.text_lines.specs.Each.{each}
-use Rattle.cover_problem.specs.Lists.{has, are_distinct}
+use Rattle.shared_words.specs.Lists.{has, are_distinct}
 use Rattle.cover_problem.specs.Problem.{ProblemValue, is_name, is_item, is_small, are_new, name_at, item_named}
 use Rattle.cover_problem.specs.Validation.{within}
 use Rattle.cover_problem.specs.Reading.{item_of, add_item}

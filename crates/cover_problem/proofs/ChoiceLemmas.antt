@@ -1,7 +1,7 @@
 -- The walk that chooses an item keeps the first of the shortest so far.
 use Rattle.std.proofs.Common.{◌≡◌, ℕ, ◌<◌, ◌≤◌, List, [], ◌∷◌, length, true, suc, is_some, nat_lt, lt-ltb, ◌⊎◌, inl, inr, Option, Some, None, IsSome, arith, refl, sym, ap, ◌∙◌, ◌-◌, subst}
 use Rattle.std.proofs.lemmas.Bool.{cases_lt}
-use Rattle.cover_problem.specs.Lists.{has, above, RisesFrom}
+use Rattle.shared_words.specs.Lists.{has, above, RisesFrom}
 use Rattle.cover_problem.specs.Problem.{ProblemValue}
 use Rattle.cover_problem.specs.Covering.{active, remaining, choice, list_of}
 use Rattle.cover_problem.proofs.RisingLemmas.{above_is, above_none}

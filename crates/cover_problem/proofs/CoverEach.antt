@@ -2,7 +2,7 @@
 use Rattle.std.proofs.Common.{◌≡◌, ℕ, ◌+◌, ◌<◌, ◌==◌, List, [], ◌∷◌, ◌++◌, length, true, arith, sym, ap, ◌∙◌, append_assoc, length-append, min, refl}
 use Rattle.std.proofs.lemmas.List.{length-take, same_from_push}
 use Rattle.std.specs.List.{position_or_len, before_first, after_first}
-use Rattle.cover_problem.specs.Lists.{has}
+use Rattle.shared_words.specs.Lists.{has}
 use Rattle.cover_problem.proofs.PartLemmas.{parts_are}
 
 pub place_within : (i : ℕ) (option : List ℕ) → has option i ≡ true → position_or_len (λ x. x == i) option < length option

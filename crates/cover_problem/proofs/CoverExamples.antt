@@ -1,6 +1,6 @@
 -- The examples of the definitions, computed on the small problem.
 use Rattle.std.proofs.Common.{◌≡◌, true, false, [], ◌∷◌, refl, codes, lit<, lit≤}
-use Rattle.cover_problem.specs.Lists.{has}
+use Rattle.shared_words.specs.Lists.{has}
 use Rattle.cover_problem.specs.Table.{IsCoveredList}
 use Rattle.cover_problem.specs.ExactCover.{IsExactCover}
 use Rattle.cover_problem.specs.CoverTest.{occurrences, is_cover}

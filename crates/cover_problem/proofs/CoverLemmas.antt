@@ -2,7 +2,7 @@
 use Rattle.std.proofs.Common.{◌≡◌, ℕ, zero, suc, ◌<◌, ◌≤◌, ◌⊎◌, Bool, true, false, not, List, [], ◌∷◌, ◌++◌, length, refl, sym, ap, ◌∙◌, inl, inr, arith, le_refl}
 use Rattle.std.specs.List.{list_any}
 use Rattle.std.proofs.lemmas.Bool.{false≢true, and_from, cases_Bool, cases_eq, cases_order, ne_eqb, not_from_false, both_ways, false_from_ne_true, true_from_ne_false}
-use Rattle.cover_problem.specs.Lists.{has}
+use Rattle.shared_words.specs.Lists.{has}
 use Rattle.cover_problem.specs.Problem.{ProblemValue, option_at}
 use Rattle.cover_problem.specs.Covering.{active, choice}
 use Rattle.cover_problem.specs.Path.{others, taken, IsChoice, covered_from, IsValidFrom}

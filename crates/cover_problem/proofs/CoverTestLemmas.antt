@@ -5,7 +5,7 @@ use Rattle.std.proofs.lemmas.Bool.Decides.{eqb_tells, nat_tests}
 use Rattle.std.proofs.lemmas.List.Sums.{sum_by-append}
 use Rattle.std.proofs.lemmas.List.{take_more}
 use Rattle.std.specs.List.{list_all}
-use Rattle.cover_problem.specs.Lists.{has, are_distinct, numbers}
+use Rattle.shared_words.specs.Lists.{has, are_distinct, numbers}
 use Rattle.cover_problem.specs.Problem.{ProblemValue, IsProblem, is_item, option_at}
 use Rattle.cover_problem.specs.ExactCover.{IsExactCover}
 use Rattle.cover_problem.specs.CoverTest.{occurrences, has_right_count, has_primary_item, is_cover}

@@ -2,7 +2,7 @@
 use Rattle.std.proofs.Common.{◌≡◌, ℕ, ◌+◌, ◌<◌, ◌≤◌, true, not, List, [], ◌∷◌, ◌++◌, length, refl, sym, arith, append_assoc, append-nil, length-append, ◌∙◌}
 use Rattle.std.specs.List.{list_all}
 use Rattle.std.proofs.lemmas.Bool.{and_parts, not-true, both_ways, false_from_ne_true}
-use Rattle.cover_problem.specs.Lists.{has, are_distinct}
+use Rattle.shared_words.specs.Lists.{has, are_distinct}
 use Rattle.cover_problem.specs.Problem.{ProblemValue, is_item}
 use Rattle.cover_problem.specs.Covering.{uncovered}
 use Rattle.cover_problem.specs.Coverable.{IsUncovered, CanCover}

@@ -12,7 +12,7 @@ use Rattle.text_lines.specs.Each.{each}
 use Rattle.text_lines.proofs.EachLemmas.{each-append}
 use Rattle.cover_problem.specs.declared.fault.Fault.TheVariants.{BadLine}
 use Rattle.cover_problem.proofs.TextLemmas.{blank, text_with_items}
-use Rattle.cover_problem.specs.Lists.{are_distinct}
+use Rattle.shared_words.specs.Lists.{are_distinct}
 use Rattle.cover_problem.specs.Problem.{ProblemValue, IsProblem, is_name, is_item, is_option, are_new, name_at}
 use Rattle.cover_problem.specs.Validation.{add_name, within}
 use Rattle.cover_problem.specs.Reading.{add_item, nothing, items_line, maybe_line, option_line, words_line, line, problem_of}

@@ -4,7 +4,7 @@ use Rattle.std.specs.List.{list_all}
 use Rattle.std.proofs.lemmas.Bool.{and_parts, cases_eq}
 use Rattle.std.proofs.lemmas.List.{length-map, get_or-map, map-set}
 use Rattle.std.proofs.lemmas.List.Sums.{AllPass-from_list_all, length-filter, count_by-le-length}
-use Rattle.cover_problem.specs.Lists.{has, are_distinct, numbers}
+use Rattle.shared_words.specs.Lists.{has, are_distinct, numbers}
 use Rattle.cover_problem.specs.Problem.{ProblemValue, IsProblem, is_item, is_option}
 use Rattle.cover_problem.specs.Table.{TableValue}
 use Rattle.cover_problem.specs.Plain.{holding, holders_of, IsNoted}

@@ -7,7 +7,7 @@ use Rattle.std.proofs.lemmas.List.Quantifiers.{position-Some}
 use Rattle.std.proofs.lemmas.List.{map-append}
 use Rattle.text_lines.specs.Each.{each}
 use Rattle.cover_problem.specs.declared.fault.Fault.TheVariants.{BadName, UnknownItem, ItemTwiceInOption}
-use Rattle.cover_problem.specs.Lists.{has, are_distinct}
+use Rattle.shared_words.specs.Lists.{has, are_distinct}
 use Rattle.cover_problem.specs.Problem.{is_name, is_item, name_at, item_named}
 use Rattle.cover_problem.specs.Validation.{with_item}
 use Rattle.cover_problem.specs.Reading.{item_of, add_item, found_or}

@@ -11,7 +11,7 @@ use Rattle.text_lines.proofs.EachLemmas.{each_fault}
 use Rattle.text_lines.proofs.ResultLemmas.{bind_err, err_is, no_value}
 use Rattle.cover_problem.specs.declared.fault.Fault.{Fault}
 use Rattle.cover_problem.specs.declared.fault.Fault.TheVariants.{BadName, RepeatedItem, UnknownItem, ItemTwiceInOption, TooLarge, NoItemLine, BadLine}
-use Rattle.cover_problem.specs.Lists.{has}
+use Rattle.shared_words.specs.Lists.{has}
 use Rattle.cover_problem.specs.Problem.{ProblemValue, is_name, is_item, is_small}
 use Rattle.cover_problem.specs.Validation.{add_name, with_item, add_number, option_from, add_option, within, problem_from}
 

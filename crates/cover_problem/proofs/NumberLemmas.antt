@@ -1,7 +1,7 @@
 -- Numbers in a row, and rising lists.
 use Rattle.std.proofs.Common.{◌≡◌, ℕ, zero, suc, ◌+◌, ◌<◌, ◌≤◌, ◌⊎◌, ◌==◌, Bool, true, false, not, ◌&&◌, cond, Some, List, [], ◌∷◌, ◌++◌, length, get_or, filter, find, refl, sym, ap, ◌∙◌, inl, inr, arith, le_refl, le_trans, add-one, ◌-◌, map, set, All, add-zero}
 use Rattle.std.proofs.lemmas.Bool.{false≢true, or_left, cases_Bool, cases_eq, eq-eqb, ne_eqb}
-use Rattle.cover_problem.specs.Lists.{has, numbers, RisesFrom}
+use Rattle.shared_words.specs.Lists.{has, numbers, RisesFrom}
 use Rattle.cover_problem.proofs.MemberLemmas.{has_cases, has_later, filter_agree_on}
 
 -- numbers in a row

@@ -4,7 +4,7 @@ use Rattle.std.specs.List.{list_all}
 use Rattle.std.proofs.lemmas.Bool.{and_parts, and_from, and_left, and_right, lt-leb, cases_eq}
 use Rattle.cover_problem.specs.declared.fault.Fault.{Fault}
 use Rattle.cover_problem.specs.declared.fault.Fault.TheVariants.{UnknownItem, ItemTwiceInOption, BadLine}
-use Rattle.cover_problem.specs.Lists.{has, are_distinct}
+use Rattle.shared_words.specs.Lists.{has, are_distinct}
 use Rattle.cover_problem.specs.Stamps.{AreStamps}
 use Rattle.cover_problem.specs.Problem.{is_item, is_option}
 use Rattle.text_lines.specs.Each.{each}

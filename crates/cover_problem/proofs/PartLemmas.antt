@@ -3,7 +3,7 @@ use Rattle.std.proofs.Common.{◌≡◌, ℕ, zero, suc, ◌<◌, ◌⊎◌, ◌
 use Rattle.std.specs.List.{before_first, after_first}
 use Rattle.std.proofs.lemmas.Bool.{false≢true, true≢false, or_parts, or_from, and_parts, and_from, cases_eq, eq-eqb, ne_eqb, not-true, not_from_false, both_ways, false_from_ne_true}
 use Rattle.std.proofs.lemmas.List.Folds.{list_any-append}
-use Rattle.cover_problem.specs.Lists.{has, are_distinct}
+use Rattle.shared_words.specs.Lists.{has, are_distinct}
 use Rattle.cover_problem.proofs.MemberLemmas.{has_cases, has_here, has_later, has_not, has_append_not, has_append_not_from, has_at, nat_eq_sym}
 
 -- the parts of a list beside its first i

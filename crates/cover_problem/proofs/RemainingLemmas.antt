@@ -2,7 +2,7 @@
 use Rattle.std.proofs.Common.{◌≡◌, ℕ, ◌-◌, ◌<◌, ◌≤◌, ◌⊎◌, ◌==◌, nat_le, true, false, not, unwrap_or, List, [], ◌∷◌, ◌++◌, length, find, ap, inl, inr, arith}
 use Rattle.std.specs.List.{list_any, slice_index_or, before_first}
 use Rattle.std.proofs.lemmas.Bool.{and_parts, cases_Bool, cases_lt, leb-true, leb-false, le-leb, not-true}
-use Rattle.cover_problem.specs.Lists.{has, numbers, RisesFrom}
+use Rattle.shared_words.specs.Lists.{has, numbers, RisesFrom}
 use Rattle.cover_problem.specs.Problem.{ProblemValue, option_at}
 use Rattle.cover_problem.specs.Covering.{active, is_remaining, remaining_among, remaining, list_of, is_shortest, choice}
 use Rattle.cover_problem.proofs.MemberLemmas.{all_member, all_from, not_all, has_filter_in, has_filter, least_is, has_some, some_head}

@@ -1,7 +1,7 @@
 -- The members beside a number in a rising list, its last, and the first that passes a test.
 use Rattle.std.proofs.Common.{◌≡◌, ℕ, zero, suc, ◌<◌, ◌≤◌, ◌⊎◌, ◌==◌, Bool, true, false, Option, Some, None, unwrap_or, List, [], ◌∷◌, length, get_or, find, refl, sym, ap, ◌∙◌, inl, inr, arith, le_refl}
 use Rattle.std.proofs.lemmas.Bool.{false≢true, or_left, cases_Bool, cases_lt, eq-eqb, lt-ltb, le-ltb, both_ways}
-use Rattle.cover_problem.specs.Lists.{has, RisesFrom, above, below, last_of}
+use Rattle.shared_words.specs.Lists.{has, RisesFrom, above, below, last_of}
 use Rattle.std.specs.List.Sorted.{IsNonDecreasingBy}
 use Rattle.cover_problem.proofs.MemberLemmas.{has_cases, has_here, has_later}
 use Rattle.cover_problem.proofs.NumberLemmas.{rises_member}

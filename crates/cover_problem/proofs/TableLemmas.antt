@@ -5,7 +5,7 @@ use Rattle.std.proofs.lemmas.Bool.{and_parts}
 use Rattle.std.proofs.lemmas.List.{length-map}
 use Rattle.std.proofs.lemmas.List.Sums.{AllPass-from_list_all}
 use Rattle.std.proofs.lemmas.List.Elements.{All-filter}
-use Rattle.cover_problem.specs.Lists.{has, numbers, RisesFrom, above, below, last_of}
+use Rattle.shared_words.specs.Lists.{has, numbers, RisesFrom, above, below, last_of}
 use Rattle.cover_problem.specs.Problem.{ProblemValue, IsProblem, is_option}
 use Rattle.cover_problem.specs.Covering.{active, is_remaining, remaining, list_of}
 use Rattle.cover_problem.specs.Table.{IsCoveredList, TableValue}

@@ -4,7 +4,7 @@ use Rattle.std.specs.List.{list_any, position_or_len, before_first}
 use Rattle.std.proofs.lemmas.Bool.{cases_lt}
 use Rattle.std.proofs.lemmas.List.Sums.{prefix_len-le-length}
 use Rattle.std.proofs.lemmas.List.Folds.{position_or_len_push}
-use Rattle.cover_problem.specs.Lists.{has, numbers}
+use Rattle.shared_words.specs.Lists.{has, numbers}
 use Rattle.cover_problem.specs.Problem.{ProblemValue, IsProblem}
 use Rattle.cover_problem.specs.Covering.{remaining, list_of}
 use Rattle.cover_problem.specs.Plain.{holding, time_of, times_of, is_in}

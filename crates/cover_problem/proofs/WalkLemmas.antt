@@ -3,7 +3,7 @@ use Rattle.std.proofs.Common.{◌≡◌, refl, sym, ◌∙◌, ap₂, subst, ℕ
 use Rattle.std.specs.List.Sorted.{IsPartitionPoint}
 use Rattle.std.specs.List.{prefix_len}
 use Rattle.std.proofs.lemmas.List.Sums.{prefix_len_is}
-use Rattle.cover_problem.specs.Lists.{has, numbers, RisesFrom, above, below, last_of}
+use Rattle.shared_words.specs.Lists.{has, numbers, RisesFrom, above, below, last_of}
 use Rattle.std.proofs.lemmas.Bool.{or_left, or_right}
 use Rattle.std.proofs.lemmas.List.Elements.{filter-append}
 use Rattle.cover_problem.proofs.NumberLemmas.{rises_numbers}

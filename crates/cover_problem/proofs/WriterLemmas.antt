@@ -5,7 +5,7 @@ use Rattle.std.proofs.lemmas.Bool.{and_parts}
 use Rattle.std.proofs.lemmas.Grind.{flat_map-append}
 use Rattle.text_lines.specs.Writing.{line_text, text_of}
 use Rattle.std.proofs.lemmas.List.Sums.{AllPass-from_list_all}
-use Rattle.cover_problem.specs.Lists.{are_distinct}
+use Rattle.shared_words.specs.Lists.{are_distinct}
 use Rattle.cover_problem.specs.Problem.{ProblemValue, is_item, is_option}
 use Rattle.cover_problem.specs.Grammar.{maybe_words, option_words, written}
 

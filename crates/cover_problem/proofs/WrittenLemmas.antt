@@ -8,7 +8,7 @@ use Rattle.std.proofs.lemmas.List.Folds.{list_all-append}
 use Rattle.text_lines.specs.Lines.{is_empty, has_bytes}
 use Rattle.text_lines.specs.Writing.{is_word, is_word_byte}
 use Rattle.text_lines.proofs.WritingLemmas.{written_said, written_plain}
-use Rattle.cover_problem.specs.Lists.{are_distinct}
+use Rattle.shared_words.specs.Lists.{are_distinct}
 use Rattle.cover_problem.specs.Problem.{ProblemValue, IsProblem, is_name, is_name_byte, is_item, is_option, name_at}
 use Rattle.cover_problem.specs.Reading.{problem_of}
 use Rattle.cover_problem.specs.Grammar.{maybe_words, option_words, word_lines, IsCoverText, written}

@@ -6,7 +6,7 @@
 -- proofs/CoverExamples.antt computes it.
 use Rattle.std.specs.Prelude.{ℕ, ◌-◌, ◌==◌, ◌≡◌, nat_le, Bool, true, Option, not, ◌&&◌, List, length, filter, find, unwrap_or, []}
 use Rattle.std.specs.List.{list_any, list_all, slice_index_or, before_first}
-use Rattle.cover_problem.specs.Lists.{has, numbers, above, below, last_of}
+use Rattle.shared_words.specs.Lists.{has, numbers, above, below, last_of}
 use Rattle.cover_problem.specs.Problem.{ProblemValue}
 
 -- of the items 1 to n those that are not in c

@@ -4,7 +4,7 @@
 -- Example: the options 1, 4 and 5 of the small problem (c e, a d f, b g) are its exact cover.
 -- proofs/CoverExamples.antt computes it.
 use Rattle.std.specs.Prelude.{ℕ, ◌<◌, ◌≤◌, ◌≡◌, Bool, true, length}
-use Rattle.cover_problem.specs.Lists.{has}
+use Rattle.shared_words.specs.Lists.{has}
 use Rattle.cover_problem.specs.Problem.{ProblemValue, option_at}
 
 -- A set of options, given as a test on their numbers: each primary item is in exactly one of them, each other item in at

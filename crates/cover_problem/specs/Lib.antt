@@ -1,7 +1,6 @@
 pub mod Answers
 pub mod Limits
 pub mod Views
-pub mod Lists
 pub mod FlatLists
 pub mod Problem
 pub mod Covering

@@ -4,7 +4,7 @@
 -- proofs/ValidationExamples.antt computes it.
 use Rattle.std.specs.Prelude.{ℕ, ◌<◌, ◌+◌, ◌++◌, ◌∷◌, ◌≤◌, ◌≡◌, Bool, not, List, length, filter, map, if◌then◌else◌, ◌==◌, ◌-◌, [], nat_lt}
 use Rattle.std.specs.List.{position_or_len, slice_index_or, list_any}
-use Rattle.cover_problem.specs.Lists.{has, numbers}
+use Rattle.shared_words.specs.Lists.{has, numbers}
 use Rattle.cover_problem.specs.Problem.{ProblemValue, IsProblem}
 use Rattle.cover_problem.specs.Table.{IsCoveredList, TableValue}
 

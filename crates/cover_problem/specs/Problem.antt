@@ -10,7 +10,7 @@ use Rattle.std.specs.List.{list_all, list_any, slice_index_or}
 use Rattle.std.specs.Str.{bytes_eq}
 use Rattle.std.specs.Cmp.Lexicographic.{pointwise}
 use Rattle.cover_problem.specs.Limits.{most_items, most_options, most_entries, most_name_bytes}
-use Rattle.cover_problem.specs.Lists.{are_distinct}
+use Rattle.shared_words.specs.Lists.{are_distinct}
 
 -- items with these names, numbered from 1, of which the first `primary` have to be covered and the others may be;
 -- and options, numbered from 1, each a list of items

@@ -1,7 +1,7 @@
 -- Marks of items: how a reader knows the items of an option without going through it.
 use Rattle.std.specs.Prelude.{ℕ, suc, ◌<◌, ◌≤◌, ◌≡◌, ◌==◌, List, length, slice_index, sum_by, true}
 use Rattle.std.specs.List.{All, list_all}
-use Rattle.cover_problem.specs.Lists.{has}
+use Rattle.shared_words.specs.Lists.{has}
 use Rattle.cover_problem.specs.Problem.{ProblemValue, is_name, is_small}
 
 -- each item has a mark, which is the stamp where the item is in the list, and lower where it isn't

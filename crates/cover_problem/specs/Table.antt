@@ -3,7 +3,7 @@
 -- Example: in the small problem a, d and g (1 4 7) may be the covered items. proofs/CoverExamples.antt computes it.
 use Rattle.std.specs.Prelude.{ℕ, ◌≡◌, true, List, length}
 use Rattle.std.specs.List.{list_all}
-use Rattle.cover_problem.specs.Lists.{are_distinct}
+use Rattle.shared_words.specs.Lists.{are_distinct}
 use Rattle.cover_problem.specs.Problem.{ProblemValue, is_item}
 
 -- a problem, and the items covered, in the order in which they were covered

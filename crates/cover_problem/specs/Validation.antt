@@ -8,7 +8,7 @@ use Rattle.std.specs.Str.{bytes_eq}
 use Rattle.cover_problem.specs.declared.fault.Fault.{Fault}
 use Rattle.cover_problem.specs.declared.fault.Fault.TheVariants.{BadName, RepeatedItem, UnknownItem, ItemTwiceInOption, TooLarge}
 use Rattle.cover_problem.specs.declared.fault.Fault.TheVariants.{NoItemLine, BadLine}
-use Rattle.cover_problem.specs.Lists.{has}
+use Rattle.shared_words.specs.Lists.{has}
 use Rattle.cover_problem.specs.Problem.{ProblemValue, is_name, is_item, is_small}
 use Rattle.text_lines.specs.Each.{each, ◌>>=◌}
 

@@ -1,7 +1,7 @@
 //! Whether options are an exact cover.
 ghost use Rattle.std.specs.Prelude.{◌≡◌, ◌<◌, ◌≤◌, ◌↔◌, ◌∷◌, IsTrue, true, length, count_by, nat_le};
 ghost use Rattle.std.specs.List.{list_any};
-ghost use Rattle.cover_problem.specs.Lists.{are_distinct, has};
+ghost use Rattle.shared_words.specs.Lists.{are_distinct, has};
 ghost use Rattle.cover_problem.specs.Problem.{IsProblem, option_at};
 ghost use Rattle.cover_problem.specs.ExactCover.{IsExactCover};
 ghost use Rattle.cover_problem.specs.CoverTest as cover_test;

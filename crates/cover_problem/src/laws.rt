@@ -1,7 +1,7 @@
 //! Laws of the definitions: each is a function that does nothing, whose contract is the law.
 ghost use Rattle.std.specs.Prelude.{ℕ, ◌≡◌, ◌<◌, ◌≤◌, ◌↔◌, List, length, true, Ok, Err};
 ghost use Rattle.cover_problem.specs.Limits.{most_items, most_options, most_entries, most_name_bytes};
-ghost use Rattle.cover_problem.specs.Lists.{has};
+ghost use Rattle.shared_words.specs.Lists.{has};
 ghost use Rattle.cover_problem.specs.declared.fault.Fault.{Fault};
 ghost use Rattle.cover_problem.specs.declared.fault.Fault.TheVariants.{NoItemLine};
 ghost use Rattle.cover_problem.specs.Problem.{ProblemValue, IsProblem};

@@ -2,7 +2,7 @@
 ghost use Rattle.std.specs.Prelude.{◌≡◌, ◌==◌, ◌<◌, ◌≤◌, ◌++◌, ◌∷◌, ◌+◌, ◌-◌, ◌^◌, ◌↔◌, IsTrue, All, map, vec_len, vec_capacity};
 ghost use Rattle.std.specs.Prelude.{[], ℕ, List, length, take, drop, slice_index_or, OnOk, OnErr};
 ghost use Rattle.cover_problem.specs.FlatLists.{start_at};
-ghost use Rattle.cover_problem.specs.Answers.{Returns};
+ghost use Rattle.shared_words.specs.Answers.{Returns};
 
 use std::alloc::{AllocError, Global};
 use std::marker::Model;

@@ -2,7 +2,7 @@
 ghost use Rattle.std.specs.Prelude.{◌≡◌, ◌<◌, ◌≤◌, ◌^◌, ◌+◌, ◌-◌, ◌==◌, ℕ, List, [], ◌∷◌, ◌++◌, length, filter, map, not, true, find};
 ghost use Rattle.std.specs.Prelude.{replicate, nat_lt, vec_len, IfOk, OnOk, vec_capacity};
 ghost use Rattle.std.specs.List.{All, list_all, list_any, prefix_len};
-ghost use Rattle.cover_problem.specs.Lists.{last_of, numbers_above, RisesFrom};
+ghost use Rattle.shared_words.specs.Lists.{last_of, numbers_above, RisesFrom};
 ghost use Rattle.cover_problem.specs.Plain as plain;
 ghost use Rattle.cover_problem.specs.Plain.{IsNoted, holders_of, time_in};
 ghost use Rattle.cover_problem.specs.Problem as problem;

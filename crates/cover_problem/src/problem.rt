@@ -10,7 +10,7 @@ ghost use Rattle.cover_problem.specs.declared.fault.Fault.TheVariants.{NoItemLin
 ghost use Rattle.cover_problem.specs.Validation.{LacksPrimary};
 ghost use Rattle.cover_problem.specs.Views.{items_of, name_bytes, kept_names, problem_of_parts, problem_of_lists};
 ghost use Rattle.cover_problem.specs.Checks.{checked_problem};
-ghost use Rattle.cover_problem.specs.Answers.{Returns};
+ghost use Rattle.shared_words.specs.Answers.{Returns};
 
 use crate::fault::{ProblemFault, Refused};
 use crate::lists::Lists;

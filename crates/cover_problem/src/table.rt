@@ -1,7 +1,7 @@
 //! What a search asks of a table.
 ghost use Rattle.std.specs.Prelude.{◌≡◌, ◌==◌, ◌<◌, ◌≤◌, List, ◌∷◌, ◌++◌, [], ℕ, length, true, false, OnOk, IfOk};
 ghost use Rattle.std.specs.List.{position_or_len};
-ghost use Rattle.cover_problem.specs.Lists.{has, above, LosesLast};
+ghost use Rattle.shared_words.specs.Lists.{has, above, LosesLast};
 ghost use Rattle.cover_problem.specs.Problem.{ProblemValue, IsProblem};
 ghost use Rattle.cover_problem.specs.Covering.{active, choice, list_of, IsInList, first_left, last_left, next_left, prev_left};
 ghost use Rattle.cover_problem.specs.Path.{others};

@@ -5,7 +5,8 @@ ghost use Rattle.text_lines.specs.Writing.{text_of};
 ghost use Rattle.cover_problem.specs.Problem.{is_item, is_option};
 ghost use Rattle.cover_problem.specs.Grammar.{maybe_words, option_words, written};
 ghost use Rattle.cover_problem.specs.Views.{name_bytes};
-ghost use Rattle.cover_problem.specs.Answers.{Adds, AddsLine, ReturnsItems};
+ghost use Rattle.shared_words.specs.Answers.{Adds, ReturnsItems};
+ghost use Rattle.text_lines.specs.Writes.{AddsLine};
 
 use crate::lists::Lists;
 use crate::name::Name;

@@ -7,7 +7,7 @@ use Rattle.std.specs.Global.{Vec}
 use Rattle.std.specs.List.{slice_get}
 use Rattle.x_branches.specs.declared.branch.Branch.{Branch}
 use Rattle.x_branches.specs.Runner.{RunnerValue, unposted_steps}
-use Rattle.x_texts.specs.Writes.{AddsLines}
+use Rattle.text_lines.specs.Writes.{AddsLines}
 use Rattle.lab_history.specs.declared.entry.Entry.{Entry}
 use Rattle.lab_history.specs.declared.entry.Reply.{Reply}
 use Rattle.lab_history.specs.declared.entry.Reply.TheVariants as reply

@@ -23,7 +23,7 @@ use Rattle.debug_language.specs.declared.fault.DebugFault.TheVariants.{AtEnd, At
 use Rattle.debug_language.specs.declared.words.Plain.TheVariants.{End}
 use Rattle.debug_language.specs.declared.words.Counted.TheVariants.{Moved}
 use Rattle.x_texts.specs.Words.{visit_words}
-use Rattle.x_texts.specs.Writes.{WritesLines, AddsLines}
+use Rattle.text_lines.specs.Writes.{WritesLines, AddsLines}
 use Rattle.debug_views.specs.Breakpoints.{first_met, steps_to_break}
 use Rattle.debug_views.specs.Lines.{plain, counted, state_line, met, debug_refusal}
 use Rattle.debug_views.specs.Left.{IsEither}

@@ -1,14 +1,14 @@
 //! One act of worker 0, and what it is answered.
 ghost use Rattle.std.specs.Prelude.{◌≡◌, ◌<◌, nat_lt, ◌∷◌, [], length, OnOk, OnErr};
 ghost use Rattle.std.specs.List.{slice_get};
-ghost use Rattle.cover_problem.specs.Answers.{Returns, AddsLine};
+ghost use Rattle.shared_words.specs.Answers.{Returns};
+ghost use Rattle.text_lines.specs.Writes.{AddsLine, AddsLines};
 ghost use Rattle.lab_book.specs.Tiling.{tile_at};
 ghost use Rattle.debug_views.specs.Tiles.{tile_line};
 ghost use Rattle.lab_world.specs.World.{IsSeat, IsInHistory};
 ghost use Rattle.lab_world.specs.Alone.{Leads};
 ghost use Rattle.debug_acts.specs.Acts.{LeadsPart};
 ghost use Rattle.debug_acts.specs.Answer.{reply_refusals, refusals, is_done, worker_place, worker_retracted, worker_parted, tile_lines, done_lines, TellsAct};
-ghost use Rattle.x_texts.specs.Writes.{AddsLines};
 
 use cover_problem::Table;
 use debug_language::{

@@ -3,7 +3,7 @@ ghost use Rattle.std.specs.Prelude.{◌≡◌, ◌<◌, ◌≤◌, IfOk, OnOk, O
 ghost use Rattle.lab_world.specs.Worker.{HoldsTile};
 ghost use Rattle.debug_acts.specs.Walk.{step_forward, IsNotStepped, next_visit, told_visit, Walks, StepsSome, WritesVisits, moved_lines, steps_ahead, step_count};
 ghost use Rattle.debug_acts.specs.Work.{work};
-ghost use Rattle.x_texts.specs.Writes.{AddsLines};
+ghost use Rattle.text_lines.specs.Writes.{AddsLines};
 
 mod backward;
 mod breakpoint;

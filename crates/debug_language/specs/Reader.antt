@@ -6,6 +6,7 @@
 -- Example: `split 0 4` asks to split at level 0 and option 4; `split 0`, `split 0 04` and `# split` are no commands.
 -- proofs/ReaderExamples.antt computes it.
 use Rattle.std.specs.Prelude.{ℕ, ◌≡◌, ◌==◌, nat_le, Bool, true, ◌&&◌, if◌then◌else◌, List, [], ◌∷◌, codes, Option, Some, option_map}
+use Rattle.shared_words.specs.Workers.{most_workers}
 use Rattle.std.specs.Prelude.{is_some, option_and_then}
 use Rattle.std.specs.Prelude as prelude
 use Rattle.std.specs.List.{slice_split}
@@ -199,7 +200,7 @@ load_from words = option_map engine.Load (number_from words)
 
 -- `pool`: 1 to 32 workers
 abbrev pub workers : ℕ → Option EngineCommand
-workers n = if nat_le n 32 then Some (engine.Pool n) else prelude.None
+workers n = if nat_le n most_workers then Some (engine.Pool n) else prelude.None
 
 -- the words after `pool`: one number of workers, and no other word
 abbrev pub pool_from : List (List ℕ) → Option EngineCommand

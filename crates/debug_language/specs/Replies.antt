@@ -7,13 +7,12 @@ use Rattle.std.specs.List.{list_all}
 use Rattle.text_lines.specs.Lines.{is_newline}
 use Rattle.text_lines.specs.Writing.{line_text}
 use Rattle.cover_problem.specs.Problem.{ProblemValue, is_item, name_at}
-use Rattle.cover_problem.specs.Answers.{AddsLine}
+use Rattle.text_lines.specs.Writes.{AddsLine, WritesLine}
 use Rattle.x_branches.specs.declared.fault.RunnerFault.{RunnerFault}
 use Rattle.x_branches.specs.Faults as runner
 use Rattle.x_snapshot.specs.declared.fault.SnapshotFault.{SnapshotFault}
 use Rattle.x_snapshot.specs.Faults as snapshot
 use Rattle.x_texts.specs.Words.{cut_words}
-use Rattle.x_texts.specs.Writes.{WritesLine}
 use Rattle.debug_language.specs.declared.fault.DebugFault.{DebugFault}
 use Rattle.debug_language.specs.Faults as debug
 use Rattle.debug_language.specs.declared.words.Plain.{Plain}

@@ -5,10 +5,8 @@ ghost use Rattle.debug_language.specs.Reader as spec;
 ghost use Rattle.debug_language.specs.Reader.{engine_command_of};
 
 use crate::reader::{count_from, number_from};
+use shared_words::MOST_WORKERS;
 use text_lines::{has_words, split_word, without_return};
-
-/// The most workers that a search can have.
-const MOST_WORKERS: u32 = 32;
 
 /// What a command line asks of the engine.
 #[derive(Clone, Copy, Debug, PartialEq, Eq)]

@@ -3,12 +3,12 @@ ghost use Rattle.std.specs.Prelude.{◌≡◌, ◌<◌, ◌≤◌, true, map, le
 ghost use Rattle.std.specs.List.{list_all};
 ghost use Rattle.text_lines.specs.Lines.{is_newline};
 ghost use Rattle.text_lines.specs.Writing.{spaced};
-ghost use Rattle.cover_problem.specs.Answers.{Adds, AddsLine};
+ghost use Rattle.shared_words.specs.Answers.{Adds};
+ghost use Rattle.text_lines.specs.Writes.{AddsLine, AddsWords, AddsLines};
 ghost use Rattle.cover_problem.specs.Problem.{is_item, name_at};
 ghost use Rattle.x_steps.specs.StateView.{row_values};
 ghost use Rattle.debug_language.specs.Replies.{untried_words, covered_words};
 ghost use Rattle.debug_language.specs.Replies.{saved_text, are_of_items, lent_branch, lent_standing, list_line, list_lines};
-ghost use Rattle.x_texts.specs.Writes.{AddsWords, AddsLines};
 
 use crate::replies::write_counted;
 use crate::words::{Counted, Listed, Standing};

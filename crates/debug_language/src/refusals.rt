@@ -1,5 +1,5 @@
 //! The line of a refused command.
-ghost use Rattle.cover_problem.specs.Answers.{AddsLine};
+ghost use Rattle.text_lines.specs.Writes.{AddsLine};
 ghost use Rattle.debug_language.specs.Replies.{refused_words, AddsDebugRefusal, AddsRunnerRefusal, AddsSnapshotRefusal};
 
 use crate::fault::DebugFault;

@@ -1,6 +1,6 @@
 //! The lines of replies.
 ghost use Rattle.std.specs.Prelude.{◌≡◌, ◌∷◌, [], true, decimal, codes};
-ghost use Rattle.cover_problem.specs.Answers.{AddsLine};
+ghost use Rattle.text_lines.specs.Writes.{AddsLine};
 ghost use Rattle.x_steps.specs.StateView.{state_value};
 ghost use Rattle.x_texts.specs.Breaks.{is_break};
 ghost use Rattle.x_texts.specs.Words.{state_words, keyed_point, break_words};

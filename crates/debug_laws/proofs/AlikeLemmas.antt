@@ -1,6 +1,6 @@
 -- Two branches at work on alike books, at the same state with the same mark: what they are asked for they answer alike.
 use Rattle.std.proofs.Common.{◌≡◌, ℕ, ◌==◌, Bool, true, false, cond, Some, [], ◌∷◌, refl, sym, ap, ◌∙◌, subst}
-use Rattle.cover_problem.specs.Lists.{has}
+use Rattle.shared_words.specs.Lists.{has}
 use Rattle.x_steps.specs.Run.{steps_between}
 use Rattle.x_branches.specs.declared.branch.Branch.{Branch}
 use Rattle.x_branches.specs.declared.fault.RunnerFault.TheVariants.{NotAtMark}

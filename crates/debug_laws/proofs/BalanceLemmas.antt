@@ -1,6 +1,6 @@
 -- Each act of worker 0 changes the number of a book's leased tiles as it changes that of its open branches.
 use Rattle.std.proofs.Common.{◌≡◌, ℕ, ◌+◌, ◌==◌, Bool, true, false, Option, Some, None, List, [], ◌∷◌, refl, sym, ap, ◌∙◌, subst, arith}
-use Rattle.cover_problem.specs.Lists.{has}
+use Rattle.shared_words.specs.Lists.{has}
 use Rattle.x_branches.specs.Branch.{end_of}
 use Rattle.x_branches.specs.Untried.{with_choice}
 use Rattle.x_branches.specs.Refusals.{most_steps, untried_in, cut_at}

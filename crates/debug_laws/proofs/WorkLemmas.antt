@@ -1,7 +1,7 @@
 -- A branch at work stays sound: where what isn't posted is posted, where its search steps on or back, where it is parted, and where its
 -- last stretch is taken out.
 use Rattle.std.proofs.Common.{◌≡◌, ℕ, ◌-◌, ◌<◌, ◌==◌, Bool, true, false, cond, Option, Some, None, Result, List, [], ◌∷◌, refl, sym, ap, ◌∙◌, subst, arith, eqb-true}
-use Rattle.cover_problem.specs.Lists.{has}
+use Rattle.shared_words.specs.Lists.{has}
 use Rattle.cover_problem.specs.Problem.{ProblemValue}
 use Rattle.x_steps.specs.StateValue.{StateValue}
 use Rattle.x_steps.specs.Run.{after}

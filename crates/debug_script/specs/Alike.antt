@@ -1,7 +1,7 @@
 -- What is said in the place of any sound session that is alike, and left of it.
 use Rattle.std.specs.Prelude.{ℕ, List, Result, OnOk}
 use Rattle.std.specs.Global.{Vec}
-use Rattle.x_texts.specs.Writes.{Writes}
+use Rattle.text_lines.specs.Writes.{Writes}
 use Rattle.x_debug.specs.Session.{SessionValue}
 use Rattle.debug_laws.specs.AlikeSessions.{AreSoundAlike}
 

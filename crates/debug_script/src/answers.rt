@@ -1,11 +1,11 @@
 //! What a session of a problem answers to command lines.
 ghost use Rattle.std.specs.Prelude.{IfOk, IfErr, OnOk};
-ghost use Rattle.cover_problem.specs.Answers.{ReturnsItems};
+ghost use Rattle.shared_words.specs.Answers.{ReturnsItems};
 ghost use Rattle.x_debug.specs.Session.{fresh_session};
 ghost use Rattle.debug_script.specs.Alike.{SaysAlike, StaysAlike};
 ghost use Rattle.debug_script.specs.Refusals.{IsWantOr, MayEnd};
 ghost use Rattle.debug_script.specs.Replies.{said_to, session_left, Leaves, IsNoLonger, AnswersAlike, replies_to};
-ghost use Rattle.x_texts.specs.Writes.{Writes};
+ghost use Rattle.text_lines.specs.Writes.{Writes};
 
 use crate::fault::RepliesFault;
 use crate::input::{raw_line, take_lines, without_newline};

@@ -8,7 +8,7 @@ ghost use Rattle.debug_views.specs.Lines.{debug_refusal};
 ghost use Rattle.debug_script.specs.Alike.{SaysAlike, StaysAlike};
 ghost use Rattle.debug_script.specs.PoolAnswer.{none_held, pool_words, pool_said, pool_left};
 ghost use Rattle.debug_script.specs.Refusals.{MayRefuse, IsWantOr};
-ghost use Rattle.cover_problem.specs.Answers.{AddsLine};
+ghost use Rattle.text_lines.specs.Writes.{AddsLine};
 
 use crate::answers::append;
 use crate::fault::RepliesFault;

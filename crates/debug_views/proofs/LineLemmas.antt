@@ -5,7 +5,7 @@ use Rattle.std.specs.List.{flat_map}
 use Rattle.std.proofs.lemmas.List.{length-map}
 use Rattle.std.proofs.lemmas.Grind.{flat_map-append}
 use Rattle.text_lines.specs.Writing.{line_text, text_of}
-use Rattle.cover_problem.specs.Lists.{numbers}
+use Rattle.shared_words.specs.Lists.{numbers}
 use Rattle.cover_problem.proofs.NumberLemmas.{length-numbers, number_at, numbers_push}
 use Rattle.x_branches.specs.Runner.{RunnerValue}
 use Rattle.x_branches.specs.Refusals.{untried_in}

@@ -4,7 +4,7 @@
 -- proofs/ViewExamples.antt computes these.
 use Rattle.std.specs.Prelude.{ℕ, ◌+◌, List, [], ◌∷◌, ◌++◌, length, map, Option, Some, None}
 use Rattle.std.specs.List.{flat_map}
-use Rattle.cover_problem.specs.Lists.{numbers}
+use Rattle.shared_words.specs.Lists.{numbers}
 use Rattle.x_steps.specs.Steps.{covered_in}
 use Rattle.x_steps.specs.Machine.{remaining_in, second_in, chosen_in}
 use Rattle.x_branches.specs.Runner.{RunnerValue}

@@ -1,7 +1,7 @@
 //! Which breakpoint a state meets.
 ghost use Rattle.std.specs.Prelude.{◌≡◌, ◌||◌};
 ghost use Rattle.std.specs.List.{find, list_any};
-ghost use Rattle.cover_problem.specs.Answers.{Returns};
+ghost use Rattle.shared_words.specs.Answers.{Returns};
 ghost use Rattle.x_texts.specs.Breaks.{is_same};
 ghost use Rattle.debug_views.specs.Breakpoints.{first_met, is_item_break};
 

@@ -4,8 +4,7 @@ ghost use Rattle.lab_book.specs.Book.{cut_path};
 ghost use Rattle.debug_views.specs.Lines.{state_line};
 ghost use Rattle.debug_views.specs.Overview.{runner_branch, runner_covered, runner_chosen, runner_uncovered};
 ghost use Rattle.debug_views.specs.Overview.{show_lines, level_lines, all_untried, untried_lines};
-ghost use Rattle.cover_problem.specs.Answers.{AddsLine};
-ghost use Rattle.x_texts.specs.Writes.{AddsLines};
+ghost use Rattle.text_lines.specs.Writes.{AddsLine, AddsLines};
 
 use cover_problem::{Problem, Table};
 use debug_language::{

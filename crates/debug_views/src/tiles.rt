@@ -2,8 +2,7 @@
 ghost use Rattle.std.specs.Prelude.{◌≡◌, ◌<◌, ℕ, length, OnOk, IfSome};
 ghost use Rattle.debug_views.specs.Lines.{book_refusal};
 ghost use Rattle.debug_views.specs.Tiles.{given_cut, is_begun_at, place_at, BeginsAt, standing_of, tile_line, open_lines, branches_lines, posted_lines};
-ghost use Rattle.cover_problem.specs.Answers.{AddsLine};
-ghost use Rattle.x_texts.specs.Writes.{AddsLines};
+ghost use Rattle.text_lines.specs.Writes.{AddsLine, AddsLines};
 
 use crate::overview::choices;
 use debug_language::{

@@ -9,7 +9,7 @@ use Rattle.std.proofs.lemmas.List.{length-map, get_or_past, get_or_default, drop
 use Rattle.std.proofs.lemmas.List.Concat.{length-flat_map}
 use Rattle.std.proofs.lemmas.List.Elements.{All-set, All-push, All-take, All-drop, All-append}
 use Rattle.std.proofs.lemmas.List.Sums.{sum_by-cons, sum_by-set, sum_by_push, sum_by-take-drop, sum_by-drop_more, sum_by-insert, sum_by-le}
-use Rattle.cover_problem.specs.Lists.{numbers}
+use Rattle.shared_words.specs.Lists.{numbers}
 use Rattle.cover_problem.specs.Problem.{ProblemValue}
 use Rattle.cover_problem.proofs.NumberLemmas.{length-numbers}
 use Rattle.x_steps.specs.Run.{level_count, states_between, visits_between}

@@ -6,7 +6,7 @@
 -- the visit 4 5 1, and it has 0 0 0 1 X2 states at the levels 0 to 3. proofs/BookExamples.antt computes it.
 use Rattle.std.specs.Prelude.{ℕ, ◌+◌, ◌^◌, ◌≡◌, ◌<◌, List, All, length, map, slice_index}
 use Rattle.std.specs.List.{flat_map, sum_by}
-use Rattle.cover_problem.specs.Lists.{numbers}
+use Rattle.shared_words.specs.Lists.{numbers}
 use Rattle.cover_problem.specs.Problem.{ProblemValue}
 use Rattle.x_steps.specs.Levels.{without_last_zeros, trimmed_levels}
 use Rattle.x_steps.specs.Run.{level_count, states_between, steps_between, visits_between}

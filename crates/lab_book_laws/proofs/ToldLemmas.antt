@@ -5,7 +5,7 @@ use Rattle.std.proofs.Common.{subst, arith, append-nil, append_assoc}
 use Rattle.std.specs.List.{sum_by}
 use Rattle.std.proofs.lemmas.List.Concat.{flat_map-cons}
 use Rattle.std.proofs.lemmas.List.Sums.{sum_by-cons}
-use Rattle.cover_problem.specs.Lists.{numbers}
+use Rattle.shared_words.specs.Lists.{numbers}
 use Rattle.cover_problem.specs.Problem.{ProblemValue}
 use Rattle.x_steps.specs.StateValue.{StateValue}
 use Rattle.x_steps.specs.Steps.{Fits}

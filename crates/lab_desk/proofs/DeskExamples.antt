@@ -1,4 +1,4 @@
--- The examples of specs/Record.antt, specs/Ending.antt and specs/Seats.antt, computed.
+-- The examples of specs/Record.antt and specs/Seats.antt, computed.
 use Rattle.std.proofs.Common.{◌≡◌, ℕ, zero, suc, true, false, Some, None, Ok, Err, List, [], ◌∷◌, length, get_or, refl, ap, subst, inl, inr, arith}
 use Rattle.std.proofs.lemmas.Option.{same_Some}
 use Rattle.cover_problem.specs.Problem.{ProblemValue}

@@ -1,5 +1,6 @@
 //! A desk: a book under one lock, which each worker calls from a seat of its own.
 ghost use Rattle.std.specs.Prelude.{◌≡◌, ◌<◌, ◌≤◌, [], IfOk, IfErr, OnOk, vec_len, vec_capacity, length, take, List};
+ghost use Rattle.shared_words.specs.Workers.{most_workers, IsWorkerCount};
 ghost use Rattle.cover_problem.specs.Problem.{ProblemValue};
 ghost use Rattle.x_steps.specs.StateValue.{StateValue};
 ghost use Rattle.x_branches.specs.declared.branch.Branch.{Branch};
@@ -59,7 +60,7 @@ pub struct Desk<'p, L: Desking> {
     seats: u8,
     ghost same: { problem.now ≡ L.whole },
     ghost opened: { from ≡ length L.opening },
-    ghost few: { seats ≤ 32 },
+    ghost few: { seats ≤ most_workers },
 }
 
 impl<'p, L: Desking> Model for Desk<'p, L> {
@@ -75,7 +76,7 @@ fn seat_all<L: Ledger>(alloc: Global, seats: &mut Vec<Seat<L>>, rest: Share<L>, 
     requires none { seats.old.items ≡ [] }
     requires room { n ≤ vec_capacity seats.old }
     requires parts { (rest.parts ≡ n) × (rest.amount ≡ 0) }
-    requires few { n ≤ 32 }
+    requires few { n ≤ most_workers }
     ensures len { vec_len seats.new ≡ n }
     ensures seats { AreNewSeats seats.new.items }
 {
@@ -98,7 +99,7 @@ impl<'p, L: Desking> Desk<'p, L> {
     ) -> Result<(Desk<'p, L>, Vec<Seat<L>>), (Blank, Book<'p>)>
         requires name { blank.name ≡ L.name }
         requires parts { (blank.parts ≡ L.parts) × (blank.parts ≡ n) }
-        requires seats { (0 < n) × (n ≤ 32) }
+        requires seats { IsWorkerCount n }
         requires opening { book.history ≡ L.opening }
         requires whole { book.problem ≡ L.whole }
         requires part { book.branch ≡ L.part }

@@ -1,5 +1,6 @@
 //! A worker's seat at a desk, with notes of its calls.
 ghost use Rattle.std.specs.Prelude.{◌≡◌, ◌≤◌, [], length, None};
+ghost use Rattle.shared_words.specs.Workers.{IsWorker};
 ghost use Rattle.lab_desk.specs.Record.{notes_from, TellsWhether};
 
 use crate::sheet::Sheet;
@@ -23,7 +24,7 @@ pub struct Seat<L: Ledger> {
     pub(crate) number: u8,
     pub(crate) notes: Sheet,
     pub(crate) share: Share<L>,
-    ghost few: { number ≤ 31 },
+    ghost few: { IsWorker number },
     ghost one_part: { share.parts ≡ 1 },
     ghost none: { notes.next ≡ None },
     ghost counted: { share.amount ≡ length notes.list },
@@ -70,7 +71,7 @@ impl<L: Ledger> Seat<L> {
     /// A seat without notes.
     pub(crate) fn new(alloc: Global, number: u8, share: Share<L>) -> Seat<L>
         requires share { (share.parts ≡ 1) × (share.amount ≡ 0) }
-        requires few { number ≤ 31 }
+        requires few { IsWorker number }
         ensures { result ≡ record { number = number; notes = []; kept = 0 } }
     {
         Seat {
@@ -83,7 +84,7 @@ impl<L: Ledger> Seat<L> {
     /// Its number, which its calls have as the worker's.
     pub fn number(&self) -> u8
         ensures number { result ≡ self.now.number }
-        ensures few { result ≤ 31 }
+        ensures few { IsWorker result }
     {
         self.number
     }

@@ -1,7 +1,8 @@
 //! Workers over a desk.
 ghost use Rattle.std.specs.Prelude.{◌≡◌, ◌<◌, ◌≤◌, ◌↔◌, ◌+◌, [], None, IfOk, IfErr, OnOk, IsTrue};
 ghost use Rattle.std.specs.Prelude.{length, vec_len, vec_capacity};
-ghost use Rattle.x_steps.specs.Answers.{IfRefused};
+ghost use Rattle.shared_words.specs.Workers.{IsWorkerCount};
+ghost use Rattle.cover_problem.specs.Answers.{IfRefused};
 ghost use Rattle.x_steps.specs.StateValue.{start};
 ghost use Rattle.x_branches.specs.Branch.{whole_run};
 ghost use Rattle.lab_book.specs.Book.{waiting_in, leased_in, new_book};
@@ -19,6 +20,7 @@ use cover_problem::{Problem, Table};
 use lab_book::Book;
 use lab_desk::{Desk, Desking, Seat};
 use lab_tickets::{TicketSeat, tickets};
+use shared_words::MOST_WORKERS;
 use std::alloc::Global;
 use std::marker::Brand;
 use std::sync::Wait;
@@ -110,7 +112,7 @@ fn run_at<'p, T: Table + Send + Sync, L: Desking + Send + Sync, R: Threads + Wai
 ) -> Result<Book<'p>, Refused<PoolFault, Option<Book<'p>>>>
     requires name { blank.name ≡ L.name }
     requires parts { (blank.parts ≡ L.parts) × (blank.parts ≡ workers) }
-    requires workers { (0 < workers) × (workers ≤ 32) }
+    requires workers { IsWorkerCount workers }
     requires opening { book.history ≡ L.opening }
     requires whole { book.problem ≡ L.whole }
     requires part { book.branch ≡ L.part }
@@ -175,7 +177,7 @@ pub fn run_pool_on<'p, T: Table + Send + Sync, R: Threads + Wait + Sync, G: Gate
     gate: &G,
 ) -> Result<Book<'p>, Refused<PoolFault, Option<Book<'p>>>>
     requires free { leased_in book.tiles ≡ 0 }
-    ensures workers { OnOk result ((0 < workers) × (workers ≤ 32)) }
+    ensures workers { OnOk result (IsWorkerCount workers) }
     ensures on { IfOk result (λ b. GoesOn book.entry b) }
     ensures finished { IfOk result (λ b. AllClosed b.tiles) }
     ensures none_held { OnOk result (held_tiles book.entry.tiles ≡ []) }
@@ -190,7 +192,7 @@ pub fn run_pool_on<'p, T: Table + Send + Sync, R: Threads + Wait + Sync, G: Gate
     ensures threads { IfFault result PoolFault.NoThread (λ b. 0 < waiting_in b.tiles) }
     ensures several { IfRefused result PoolFault.NoThread (1 < workers) }
 {
-    if workers == 0 || workers > 32 {
+    if workers == 0 || workers > MOST_WORKERS {
         return Err(refuse(PoolFault::BadWorkerCount, book));
     }
     // Before anything grows or starts: there is nothing to search.
@@ -217,7 +219,7 @@ pub fn run_pool<'p, T: Table + Send + Sync, R: Threads + Wait + Sync, G: Gate>(
     workers: u32,
     gate: &G,
 ) -> Result<Book<'p>, Refused<PoolFault, Option<Book<'p>>>>
-    ensures workers { OnOk result ((0 < workers) × (workers ≤ 32)) }
+    ensures workers { OnOk result (IsWorkerCount workers) }
     ensures problem { IfOk result (λ b. b.problem ≡ problem.now) }
     ensures on { IfOk result (λ b. GoesOn (new_book problem.now whole_run start) b) }
     ensures finished { IfOk result (λ b. AllClosed b.tiles) }
@@ -230,7 +232,7 @@ pub fn run_pool<'p, T: Table + Send + Sync, R: Threads + Wait + Sync, G: Gate>(
     ensures threads { IfFault result PoolFault.NoThread (λ b. 0 < waiting_in b.tiles) }
     ensures several { IfRefused result PoolFault.NoThread (1 < workers) }
 {
-    if workers == 0 || workers > 32 {
+    if workers == 0 || workers > MOST_WORKERS {
         return Err(Refused {
             fault: PoolFault::BadWorkerCount,
             given: None,

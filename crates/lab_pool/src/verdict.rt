@@ -1,6 +1,6 @@
 //! What is answered of a book, once its workers are through with it.
 ghost use Rattle.std.specs.Prelude.{◌≡◌, ◌<◌, ◌≤◌, ◌↔◌, [], true, false, Some, None, IfOk, IfErr, OnOk, IfSome, IsTrue, length, drop};
-ghost use Rattle.x_steps.specs.Answers.{IfRefused};
+ghost use Rattle.cover_problem.specs.Answers.{IfRefused};
 ghost use Rattle.lab_history.specs.declared.entry.Call.{Call};
 ghost use Rattle.lab_history.specs.Kinds.{kind_of};
 ghost use Rattle.lab_book.specs.Book.{waiting_in, leased_in};

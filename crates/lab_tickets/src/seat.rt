@@ -1,5 +1,6 @@
 //! A seat: its own deque, and those of the other seats.
 ghost use Rattle.std.specs.Prelude.{◌≡◌, ◌≢◌, ◌<◌, ◌≤◌, ◌+◌, [], map, vec_len, IfOk};
+ghost use Rattle.shared_words.specs.Workers.{most_workers};
 ghost use Rattle.lab_tickets.specs.Rule.{tally};
 ghost use Rattle.lab_tickets.specs.Deques.{tally_of, source, joined};
 ghost use Rattle.lab_tickets.specs.TicketView.{TicketView, lone_seat, pushed, popped, stolen, place_among, seat_count, TakesAs, HandsBack};
@@ -19,6 +20,7 @@ pub struct TicketSeat {
 
 impl Model for TicketSeat {
     ghost use Rattle.std.specs.Prelude.{map, ◌≤◌, ◌<◌, vec_len};
+    ghost use Rattle.shared_words.specs.Workers.{most_workers};
     ghost use Rattle.crossbeam_deque.specs.Handles.{worker_view, worker_deque};
     ghost use Rattle.lab_tickets.specs.Deques.{tally_of, source};
     ghost use Rattle.lab_tickets.specs.TicketView.{TicketView};
@@ -33,7 +35,7 @@ impl Model for TicketSeat {
       deques = map source s.others.items;
     } };
 
-    ghost invariant = { λ s. (s.number ≤ vec_len s.others) × (vec_len s.others < 32) };
+    ghost invariant = { λ s. (s.number ≤ vec_len s.others) × (vec_len s.others < most_workers) };
 }
 
 impl TicketSeat {
@@ -59,7 +61,7 @@ impl TicketSeat {
 
     /// Gives it its number, and the deques from which it steals.
     pub(crate) fn join(&mut self, number: u8, others: Vec<OtherDeque>)
-        requires { (number ≤ vec_len others) × (vec_len others < 32) }
+        requires { (number ≤ vec_len others) × (vec_len others < most_workers) }
         ensures { self.new ≡ joined self.old number others.items }
     {
         self.number = number;
@@ -77,7 +79,7 @@ impl TicketSeat {
     /// How many seats there are, this one with the others.
     pub fn seats(&self) -> u8
         ensures seats { result ≡ seat_count self.now }
-        ensures most { seat_count self.now ≤ 32 }
+        ensures most { seat_count self.now ≤ most_workers }
     {
         // There are at most 32 seats.
         self.others.len() as u8 + 1

@@ -1,5 +1,6 @@
 //! All seats, made together.
 ghost use Rattle.std.specs.Prelude.{◌≡◌, ◌<◌, ◌≤◌, ◌-◌, map, IfOk, vec_len};
+ghost use Rattle.shared_words.specs.Workers.{most_workers, IsWorkerCount};
 ghost use Rattle.lab_tickets.specs.Deques.{tally_of, sources};
 ghost use Rattle.lab_tickets.specs.TicketView.{blanks, other_deques, with_joined, AreFresh};
 
@@ -31,7 +32,7 @@ fn others_of(
 /// Gives a seat its number, and the deques of the others.
 fn seat_among(alloc: Global, seats: &mut Vec<TicketSeat>, number: u8) -> Result<(), AllocError>
     requires number { number < vec_len seats.old }
-    requires seats { vec_len seats.old ≤ 32 }
+    requires seats { vec_len seats.old ≤ most_workers }
     ensures { IfOk result (λ _. seats.new.items ≡ with_joined number seats.old.items) }
 {
     let others = others_of(alloc, seats, number as usize)?;
@@ -43,7 +44,7 @@ fn seat_among(alloc: Global, seats: &mut Vec<TicketSeat>, number: u8) -> Result<
 
 /// So many seats, each with a deque of its own, which steal from the deques of the others.
 pub fn tickets(alloc: Global, n: u8) -> Result<Vec<TicketSeat>, AllocError>
-    requires { (0 < n) × (n ≤ 32) }
+    requires { IsWorkerCount n }
     ensures count { IfOk result (λ v. vec_len v ≡ n) }
     ensures fresh { IfOk result (λ v. AreFresh n v.items) }
 {

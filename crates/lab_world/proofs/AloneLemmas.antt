@@ -4,7 +4,7 @@ use Rattle.std.specs.Prelude.{IfOk, OnErr}
 use Rattle.std.proofs.lemmas.List.{map-append, replicate_more, length-append}
 use Rattle.x_steps.specs.Steps.{event_of}
 use Rattle.x_steps.specs.declared.machine.walk.Walk.{Walk}
-use Rattle.cover_problem.specs.Lists.{has}
+use Rattle.shared_words.specs.Lists.{has}
 use Rattle.x_branches.specs.Branch.{end_of}
 use Rattle.x_branches.specs.Refusals.{most_steps, untried_in, cut_at}
 use Rattle.x_branches.specs.Runner.{RunnerValue, unposted_steps}

@@ -1,6 +1,6 @@
 -- A worker's tile is split at a cut that its runner leaves untried: the book doesn't refuse that, and the worker has its tile then.
 use Rattle.std.proofs.Common.{◌≡◌, ℕ, true, Some, None, List, length, refl, sym, ap, ◌∙◌, subst, inl, inr, arith}
-use Rattle.cover_problem.specs.Lists.{has}
+use Rattle.shared_words.specs.Lists.{has}
 use Rattle.cover_problem.proofs.ProblemLemmas.{is_same_decides}
 use Rattle.x_steps.specs.Steps.{Fits}
 use Rattle.x_branches.specs.Branch.{end_of}

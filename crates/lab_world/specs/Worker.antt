@@ -5,7 +5,7 @@
 -- Example: of the small problem's new book worker 0 leases the tile of the whole run, and its runner is at the start. Moved to X2, it has a
 -- stretch from X1 to X2 to post; once that is posted its mark is X2 too. proofs/WorldExamples.antt computes it.
 use Rattle.std.specs.Prelude.{ℕ, ◌≡◌, ◌<◌, Bool, true, Option, Some, None, option_map, Result, Ok, Err, IfErr, List, length}
-use Rattle.cover_problem.specs.Lists.{has}
+use Rattle.shared_words.specs.Lists.{has}
 use Rattle.cover_problem.specs.Problem.{ProblemValue}
 use Rattle.x_steps.specs.StateValue.{StateValue}
 use Rattle.x_branches.specs.Cut.{CutPath}

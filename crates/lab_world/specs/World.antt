@@ -9,7 +9,7 @@
 use Rattle.std.specs.Prelude.{ℕ, ◌≡◌, ◌<◌, ◌==◌, Option, Some, None, Result, IfOk, List, [], ◌∷◌, length, option_map, replicate, slice_set}
 use Rattle.std.specs.Prelude.{slice_index_or, if◌then◌else◌, IfSome, take, vec_len}
 use Rattle.std.specs.Global.{Vec}
-use Rattle.cover_problem.specs.Lists.{has}
+use Rattle.shared_words.specs.Lists.{has}
 use Rattle.x_steps.specs.StateValue.{StateValue}
 use Rattle.x_steps.specs.declared.event.Event.TheVariants as event
 use Rattle.x_steps.specs.Steps.{next, event_of, covered_in}

@@ -1,5 +1,6 @@
 //! What one worker's act makes of the book and of its seat.
 ghost use Rattle.std.specs.Prelude.{◌≡◌, ◌≤◌, ℕ, length, IfOk, OnErr};
+ghost use Rattle.shared_words.specs.Workers.{IsWorker};
 ghost use Rattle.lab_book.specs.Book.{BookValue};
 ghost use Rattle.lab_history.specs.declared.fault.BookFault.TheVariants as faults;
 ghost use Rattle.lab_world.specs.declared.event.Act.TheVariants as acts;
@@ -85,7 +86,7 @@ fn lease<'p, T: Table>(
     id: u64,
     wanted: Wanted,
 ) -> Result<WorldReply, AllocError>
-    requires { w ≤ 31 }
+    requires { IsWorker w }
     ensures turned { Acts result w (lease_act wanted id) book.old book.new seat.old seat.new }
     ensures book { OnErr result (book.new ≡ book.old) }
     ensures unchanged { OnErr result (seat.new ≡ seat.old) }
@@ -111,7 +112,7 @@ fn lease_any<'p, T: Table>(
     seat: &mut Option<Worker<'p, T>>,
     w: u8,
 ) -> Result<WorldReply, AllocError>
-    requires { w ≤ 31 }
+    requires { IsWorker w }
     ensures turned { Acts result w Act.LeaseAny book.old book.new seat.old seat.new }
     ensures book { OnErr result (book.new ≡ book.old) }
     ensures unchanged { OnErr result (seat.new ≡ seat.old) }
@@ -220,7 +221,7 @@ fn end<'p, T: Table>(
 
 /// A tile goes back to one of its marks.
 fn put_back(book: &mut Book<'_>, w: u8, id: u64, target: &Target) -> Result<WorldReply, AllocError>
-    requires { w ≤ 31 }
+    requires { IsWorker w }
     ensures turned { ActsAside result w (acts.PutBack id target.now) book.old book.new }
     ensures book { OnErr result (book.new ≡ book.old) }
 {
@@ -234,7 +235,7 @@ fn put_back(book: &mut Book<'_>, w: u8, id: u64, target: &Target) -> Result<Worl
 
 /// A tile is asked to stop.
 fn request_stop(book: &mut Book<'_>, w: u8, id: u64) -> Result<WorldReply, AllocError>
-    requires { w ≤ 31 }
+    requires { IsWorker w }
     ensures turned { ActsAside result w (acts.RequestStop id) book.old book.new }
     ensures book { OnErr result (book.new ≡ book.old) }
 {
@@ -253,7 +254,7 @@ fn perform<'p, T: Table>(
     w: u8,
     act: &Act,
 ) -> Result<WorldReply, AllocError>
-    requires small { w ≤ 31 }
+    requires small { IsWorker w }
     requires seat { IsSeat book.old w seat.old }
     ensures turned { Acts result w act.now book.old book.new seat.old seat.new }
     ensures book { OnErr result (book.new ≡ book.old) }
@@ -285,7 +286,7 @@ pub fn take_turn<'p, T: Table>(
     w: u8,
     act: &Act,
 ) -> Result<WorldReply, AllocError>
-    requires small { w ≤ 31 }
+    requires small { IsWorker w }
     requires seat { IsSeat book.old w seat.old }
     ensures turned { Acts result w act.now book.old book.new seat.old seat.new }
     ensures book { OnErr result (book.new ≡ book.old) }

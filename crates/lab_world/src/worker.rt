@@ -1,6 +1,6 @@
 //! Workers: a lease with the runner that searches its tile.
 ghost use Rattle.std.specs.Prelude.{◌≡◌, ◌≤◌, ◌<◌, ◌⊎◌, IfOk, IfErr, OnOk, OnErr};
-ghost use Rattle.cover_problem.specs.Answers.{Returns};
+ghost use Rattle.shared_words.specs.Answers.{Returns};
 ghost use Rattle.x_steps.specs.StateView.{state_value};
 ghost use Rattle.x_branches.specs.Runner.{IsRunner};
 ghost use Rattle.x_branches.specs.Refusals.{CanAdvance, AdvanceRefused};

@@ -1,7 +1,8 @@
 //! Worlds: a book, and for each worker nothing or its lease with its runner.
 ghost use Rattle.std.specs.Prelude.{◌≡◌, ◌≤◌, ◌<◌, All, None, length, replicate, option_map, is_some};
 ghost use Rattle.std.specs.Prelude.{IfOk, IfErr, IfSome, OnOk, OnErr};
-ghost use Rattle.cover_problem.specs.Answers.{Returns, ReturnsItems};
+ghost use Rattle.shared_words.specs.Workers.{most_workers};
+ghost use Rattle.shared_words.specs.Answers.{Returns, ReturnsItems};
 ghost use Rattle.x_steps.specs.StateView.{state_value};
 ghost use Rattle.x_steps.specs.StateValue.{start};
 ghost use Rattle.x_branches.specs.Runner.{IsRunner};
@@ -61,7 +62,7 @@ impl<'p, T: Table> World<'p, T> {
     /// A world with a new book of the problem's whole run, and so many workers, none of which has a tile.
     pub fn new(alloc: Global, problem: &'p Problem, workers: u8) -> Result<World<'p, T>, AllocError>
         requires some { 0 < workers }
-        requires few { workers ≤ 32 }
+        requires few { workers ≤ most_workers }
         ensures { Returns result (new_world (new_book problem.now whole_run start) workers) }
     {
         let book = Book::new(alloc, problem)?;
@@ -72,7 +73,7 @@ impl<'p, T: Table> World<'p, T> {
     /// A world on a book of which no tile is leased; the book comes back when out of memory.
     pub fn on_book(alloc: Global, book: Book<'p>, workers: u8) -> Result<World<'p, T>, Book<'p>>
         requires some { 0 < workers }
-        requires few { workers ≤ 32 }
+        requires few { workers ≤ most_workers }
         requires none_leased { leased_in book.tiles ≡ 0 }
         ensures made { IfOk result (λ world. world ≡ new_world book.entry workers) }
         ensures given_back { IfErr result (λ given. given ≡ book.entry) }

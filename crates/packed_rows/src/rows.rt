@@ -2,7 +2,7 @@
 ghost use Rattle.std.specs.Prelude.{◌≡◌, ◌++◌, ◌∷◌, [], ◌<◌, ◌≤◌, ◌^◌, ◌*◌, ◌+◌, ◌-◌, length, vec_len, vec_capacity, take, drop};
 ghost use Rattle.std.specs.Prelude.{OnOk, OnErr, slice_index_or};
 ghost use Rattle.std.specs.List.{flat_map};
-ghost use Rattle.cover_problem.specs.Answers.{Returns};
+ghost use Rattle.shared_words.specs.Answers.{Returns};
 ghost use Rattle.packed_rows.specs.Numbers.{bytes_of, most_bytes};
 ghost use Rattle.packed_rows.specs.Pieces.{span_of};
 ghost use Rattle.cover_problem.specs.FlatLists.{start_at};

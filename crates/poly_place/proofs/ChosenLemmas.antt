@@ -10,7 +10,7 @@ use Rattle.poly_cells.specs.Sets.{IsIn, IsExact, in_order}
 use Rattle.poly_cells.proofs.SetLemmas.{in_map, in_from_map, in_from_order, in_to_order, in_at}
 use Rattle.poly_cells.proofs.SortLemmas.{after_sort}
 use Rattle.poly_texts.specs.Puzzle.{PuzzleValue, IsPuzzle}
-use Rattle.cover_problem.specs.Lists.{has}
+use Rattle.shared_words.specs.Lists.{has}
 use Rattle.cover_problem.specs.ExactCover.{IsExactCover}
 use Rattle.poly_place.specs.Packings.{IsPacking, SetStandsFor, choice_at, laying_count, packing_problem}
 use Rattle.poly_place.specs.Chosen.{same_choice, is_among, ArePositive, laying, chosen_by}

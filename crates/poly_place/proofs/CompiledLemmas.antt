@@ -12,7 +12,7 @@ use Rattle.poly_cells.proofs.CoordinateLemmas.{coordinates_total}
 use Rattle.poly_cells.proofs.SetLemmas.{in_append_cases, in_from_map, in_map}
 use Rattle.poly_cells.proofs.CellTestLemmas.{in_from_has, has_from_in}
 use Rattle.poly_cells.specs.CellTests.{has_cell}
-use Rattle.cover_problem.specs.Lists.{has, are_distinct}
+use Rattle.shared_words.specs.Lists.{has, are_distinct}
 use Rattle.cover_problem.specs.Problem.{IsProblem, is_name, is_item, is_option, is_small, are_new}
 use Rattle.poly_cells.proofs.MemberLemmas.{all_pass, passes, in_from_flat_map, in_from_range}
 use Rattle.poly_texts.specs.Words as words

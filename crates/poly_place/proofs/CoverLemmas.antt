@@ -5,7 +5,7 @@ use Rattle.poly_cells.specs.Coordinates.{Coordinates, coordinates_cmp}
 use Rattle.poly_cells.specs.Sets.{IsIn}
 use Rattle.poly_cells.proofs.SetLemmas.{in_append_left, in_append_right, cases_order, turned_back}
 use Rattle.poly_texts.specs.Puzzle.{PuzzleValue, IsPuzzle, names_of, is_needed, is_spare}
-use Rattle.cover_problem.specs.Lists.{has}
+use Rattle.shared_words.specs.Lists.{has}
 use Rattle.cover_problem.specs.Problem.{option_at}
 use Rattle.cover_problem.specs.ExactCover.{IsExactCover}
 use Rattle.poly_place.specs.Packings.{ChoiceValue, is_any, must_fill, neighbours, pairs, IsUsed, first_cell, tree_levels, leaf_of, a_node, IsPlaced, IsPacking, every_choice, laying_count, option_count, leaving_at, LeavesOut, Thing, a_piece, a_cell, needed_things, thing_item, things_of, packing_problem, choice_at}

@@ -12,7 +12,7 @@ use Rattle.poly_cells.specs.Coordinates.{Coordinates}
 use Rattle.poly_cells.specs.Sets.{IsIn, in_order}
 use Rattle.poly_cells.proofs.SetLemmas.{in_at, in_map, in_from_map, in_order_rises, rising_head, rising_tail, rising_cons, rising_none, rising_map, same_members}
 use Rattle.poly_texts.specs.Puzzle.{PuzzleValue, IsPuzzle, names_of, has_name}
-use Rattle.cover_problem.specs.Lists.{has}
+use Rattle.shared_words.specs.Lists.{has}
 use Rattle.cover_problem.specs.ExactCover.{IsExactCover}
 use Rattle.poly_place.specs.Packings.{ChoiceValue, choice_with, every_choice, choices_of_piece, choice_at, laying_count, packing_problem}
 use Rattle.poly_place.specs.Chosen.{laying, chosen_by, is_among, same_choice, names_in, AreInPieceOrder, ComeByPiece, place_in}

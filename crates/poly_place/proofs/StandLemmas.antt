@@ -6,7 +6,7 @@ use Rattle.poly_cells.specs.Coordinates.{Coordinates}
 use Rattle.poly_cells.specs.Sets.{IsIn}
 use Rattle.poly_cells.proofs.SetLemmas.{in_append_right, in_map, in_from_map, in_at}
 use Rattle.poly_texts.specs.Puzzle.{PuzzleValue, IsPuzzle, has_name, is_needed}
-use Rattle.cover_problem.specs.Lists.{has}
+use Rattle.shared_words.specs.Lists.{has}
 use Rattle.cover_problem.specs.Problem.{option_at}
 use Rattle.poly_place.specs.Packings.{ChoiceValue, choice_with, is_any, IsUsed, first_cell, tree_levels, leaf_of, place_of, IsPlaced, every_choice, leavings, leaving_option, laying_count, option_count, leaving_at, LeavesOut, Thing, a_piece, a_cell, needed_things, thing_item, things_of, option_of, packing_problem, choice_at, SetStandsFor}
 use Rattle.poly_place.proofs.DistinctLemmas.{IsDistinct, at_of_in, distinct_at, distinct_names}

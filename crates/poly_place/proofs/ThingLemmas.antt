@@ -8,7 +8,7 @@ use Rattle.poly_cells.proofs.SetLemmas.{in_append_left, in_append_right, in_appe
 use Rattle.poly_cells.proofs.CellTestLemmas.{in_from_has, has_from_in}
 use Rattle.poly_cells.specs.CellTests.{has_cell}
 use Rattle.poly_texts.specs.Puzzle.{PuzzleValue, IsPuzzle, names_of, has_name, is_needed}
-use Rattle.cover_problem.specs.Lists.{has}
+use Rattle.shared_words.specs.Lists.{has}
 use Rattle.poly_place.specs.Packings.{ChoiceValue, is_any, must_fill, IsPlaced, Thing, a_piece, a_cell, a_node, same_thing, needed_things, other_things, things, index_among, thing_item, things_of, pairs, tree_levels, nodes, nodes_by, leaf_of, given}
 use Rattle.poly_cells.proofs.MemberLemmas.{in_flat_map, in_from_flat_map, in_to_range, in_from_filter, in_filter, some_passes, passes_some, first_at, first_within}
 use Rattle.poly_place.proofs.DistinctLemmas.{in_from_name, IsDistinct, distinct_append, distinct_filter, distinct_map, distinct_rising, distinct_names, distinct_at}

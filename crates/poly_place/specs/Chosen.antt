@@ -6,7 +6,7 @@ use Rattle.std.specs.Prelude.{◌≡◌, ℕ, ◌+◌, ◌-◌, ◌<◌, ◌==�
 use Rattle.std.specs.List.{list_any}
 use Rattle.std.specs.List.Sorted.{IsNonDecreasingBy}
 use Rattle.std.specs.Ordering.{is_eq, nat_cmp}
-use Rattle.cover_problem.specs.Lists.{has}
+use Rattle.shared_words.specs.Lists.{has}
 use Rattle.poly_cells.specs.Coordinates.{Coordinates}
 use Rattle.poly_cells.specs.Sets.{in_order}
 use Rattle.poly_texts.specs.Puzzle.{PuzzleValue, names_of, has_name}

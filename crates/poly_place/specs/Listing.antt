@@ -5,7 +5,7 @@
 use Rattle.std.specs.Prelude.{ℕ, ◌+◌, List, [], ◌∷◌, ◌++◌, slice_index_or, EachIndex, decimal, codes}
 use Rattle.text_lines.specs.Writing.{line_text}
 use Rattle.poly_texts.specs.Puzzle.{PuzzleValue}
-use Rattle.cover_problem.specs.Lists.{has}
+use Rattle.shared_words.specs.Lists.{has}
 use Rattle.cover_problem.specs.Problem.{ProblemValue}
 use Rattle.cover_problem.specs.ExactCover.{IsExactCover}
 use Rattle.poly_place.specs.Chosen.{packing_value}

@@ -1,6 +1,6 @@
 //! A piece and a placement of it.
 ghost use Rattle.std.specs.Prelude.{◌≡◌};
-ghost use Rattle.cover_problem.specs.Answers.{Returns};
+ghost use Rattle.shared_words.specs.Answers.{Returns};
 ghost use Rattle.poly_place.specs.Packings.{choice_with};
 
 use poly_cells::{Cell, Shape};

@@ -2,7 +2,7 @@
 ghost use Rattle.std.specs.Prelude.{◌≡◌, ◌++◌, Ok, Some, None, true, false, map, length, if◌then◌else◌};
 ghost use Rattle.std.specs.Prelude.{IsOk, IsErrOf};
 ghost use Rattle.poly_texts.specs.Puzzle.{IsPuzzle};
-ghost use Rattle.cover_problem.specs.Answers.{Returns, ReturnsItems};
+ghost use Rattle.shared_words.specs.Answers.{Returns, ReturnsItems};
 ghost use Rattle.poly_texts.specs.Lists.{lists_of};
 ghost use Rattle.poly_place.specs.Answers.{AddsLists, ReturnsLists, ReturnsTexts};
 ghost use Rattle.poly_place.specs.Packings.{every_choice, packing_problem, needed_things, option_of, thing_name, things, problem_fits};

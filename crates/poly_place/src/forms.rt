@@ -1,7 +1,7 @@
 //! Forms of packings: their parts as lists of numbers, the least of which is the same for packings that are alike.
 ghost use Rattle.std.specs.Prelude.{◌≡◌, ◌≤◌, ◌<◌, ◌∷◌, length, map};
 ghost use Rattle.poly_cells.specs.Sets.{in_order};
-ghost use Rattle.cover_problem.specs.Answers.{ReturnsItems};
+ghost use Rattle.shared_words.specs.Answers.{ReturnsItems};
 ghost use Rattle.poly_texts.specs.Lists.{lists_of};
 ghost use Rattle.poly_place.specs.Answers.{ReturnsLists};
 ghost use Rattle.poly_place.specs.Classes.{part_at};

@@ -5,7 +5,7 @@ ghost use Rattle.poly_cells.specs.Turns.{turn};
 ghost use Rattle.poly_cells.specs.Sets.{IsIn};
 ghost use Rattle.poly_cells.specs.Shapes.{IsShape, moved, moved_back};
 ghost use Rattle.poly_cells.specs.Images.{HasSymmetry};
-ghost use Rattle.cover_problem.specs.Answers.{ReturnsItems};
+ghost use Rattle.shared_words.specs.Answers.{ReturnsItems};
 ghost use Rattle.poly_place.specs.ClassCount.{images_in};
 ghost use Rattle.poly_place.specs.Forms.{marks_of};
 ghost use Rattle.poly_place.specs.Packings.{place_of};

@@ -6,7 +6,7 @@ ghost use Rattle.poly_cells.specs.CellWords as grammar;
 ghost use Rattle.poly_cells.specs.Sets.{IsIn};
 ghost use Rattle.poly_texts.specs.Puzzle.{IsPuzzle, names_of, is_needed};
 ghost use Rattle.cover_problem.specs.Limits.{most_items};
-ghost use Rattle.cover_problem.specs.Answers.{ReturnsItems};
+ghost use Rattle.shared_words.specs.Answers.{ReturnsItems};
 ghost use Rattle.poly_place.specs.Answers.{AddsTexts};
 ghost use Rattle.poly_place.specs.Packings.{a_piece, thing_item, is_any, needed_things, index_among, node_word};
 ghost use Rattle.poly_place.specs.Compiled.{AreNumbers, ArePlaces, filled_cells, needed_names, numbered};

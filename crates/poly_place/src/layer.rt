@@ -3,7 +3,7 @@ ghost use Rattle.std.specs.Prelude.{◌≡◌, ◌≤◌, ◌<◌, ◌∷◌, []
 ghost use Rattle.std.specs.String.{string_bytes};
 ghost use Rattle.text_lines.specs.Writing.{text_of};
 ghost use Rattle.poly_cells.specs.Shapes.{corner};
-ghost use Rattle.cover_problem.specs.Answers.{ReturnsItems};
+ghost use Rattle.shared_words.specs.Answers.{ReturnsItems};
 ghost use Rattle.poly_place.specs.Answers.{AddsText};
 ghost use Rattle.poly_place.specs.Layers.{AreSymbols, far_corner, layer_line, layer_lines, layers, row_symbols, symbol_at, with_gap, Paints, Shows};
 ghost use Rattle.poly_place.specs.Tables.{grid_cells};

@@ -1,7 +1,7 @@
 //! What may be chosen for the pieces of a puzzle: a placement of each.
 ghost use Rattle.std.specs.Prelude.{◌≡◌, ◌<◌, ◌||◌, ◌&&◌, length};
 ghost use Rattle.std.specs.List.{list_any};
-ghost use Rattle.cover_problem.specs.Answers.{ReturnsItems, Adds};
+ghost use Rattle.shared_words.specs.Answers.{ReturnsItems, Adds};
 ghost use Rattle.poly_place.specs.Tables.{IsCellTable, grid_cells, has_bit};
 ghost use Rattle.poly_cells.specs.Sets.{IsIn};
 ghost use Rattle.poly_place.specs.Packings.{every_choice, choices_of_piece, first_cell, has_room_for, turning_group};

@@ -1,7 +1,7 @@
 //! Packings as a list of text.
-ghost use Rattle.cover_problem.specs.Lists.{has};
+ghost use Rattle.shared_words.specs.Lists.{has};
 ghost use Rattle.cover_problem.specs.ExactCover.{IsExactCover};
-ghost use Rattle.cover_problem.specs.Answers.{Adds};
+ghost use Rattle.shared_words.specs.Answers.{Adds};
 ghost use Rattle.poly_place.specs.Packings.{packing_problem};
 ghost use Rattle.poly_place.specs.Listing.{packing_text, packings_from, AreExactCovers};
 

@@ -1,7 +1,7 @@
 //! The nodes of a tree that a leaf reaches, as numbers of items.
 ghost use Rattle.std.specs.Prelude.{◌≡◌, ◌+◌, ◌<◌, ◌≤◌, ◌^◌};
 ghost use Rattle.std.specs.List.{flat_map};
-ghost use Rattle.cover_problem.specs.Answers.{Adds, ReturnsItems};
+ghost use Rattle.shared_words.specs.Answers.{Adds, ReturnsItems};
 ghost use Rattle.poly_texts.specs.Lists.{lists_of};
 ghost use Rattle.poly_place.specs.Packings.{levels_for, neighbours};
 ghost use Rattle.poly_place.specs.Compiled.{items_from_left, items_from_right, numbers_if, pair_items};

@@ -3,7 +3,7 @@ ghost use Rattle.std.specs.Prelude.{◌≡◌, ◌+◌, ◌<◌, ◌≤◌, ℕ,
 ghost use Rattle.poly_cells.specs.Sets.{IsIn};
 ghost use Rattle.poly_texts.specs.Puzzle.{IsPuzzle, names_of};
 ghost use Rattle.poly_cells.specs.Coordinates.{Coordinates};
-ghost use Rattle.cover_problem.specs.Answers.{Adds, Returns, ReturnsItems};
+ghost use Rattle.shared_words.specs.Answers.{Adds, Returns, ReturnsItems};
 ghost use Rattle.poly_place.specs.Answers.{AddsTexts};
 ghost use Rattle.poly_place.specs.Packings.{every_choice, first_cell, followers, has_room_for, is_any, leaf_of, needed_things, nodes, option_of, place_of, thing_name, things, things_of};
 ghost use Rattle.poly_place.specs.Compiled.{cell_items, filled_cells, left_items, needed_names, node_items, node_names, piece_items};

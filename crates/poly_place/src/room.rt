@@ -1,7 +1,7 @@
 //! Whether there is room for the options of a puzzle, counted before any of them is kept.
 ghost use Rattle.std.specs.Prelude.{◌≡◌, ◌≤◌, ◌+◌, false, IfNone, IfOk, IfSome};
 ghost use Rattle.poly_texts.specs.Puzzle.{IsPuzzle};
-ghost use Rattle.cover_problem.specs.Answers.{Returns};
+ghost use Rattle.shared_words.specs.Answers.{Returns};
 ghost use Rattle.poly_place.specs.Tables.{IsCellTable};
 ghost use Rattle.poly_cells.specs.Sets.{IsIn};
 ghost use Rattle.poly_place.specs.Packings.{ChoiceValue, every_choice, problem_fits};

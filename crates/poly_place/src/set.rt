@@ -4,7 +4,7 @@ ghost use Rattle.std.specs.List.{list_all};
 ghost use Rattle.poly_cells.specs.Coordinates.{Coordinates, IsInGrid, coordinates_cmp};
 ghost use Rattle.poly_cells.specs.Sets.{IsIn, in_order};
 ghost use Rattle.poly_cells.specs.Shapes.{IsShape, moved, moved_back};
-ghost use Rattle.cover_problem.specs.Answers.{ReturnsItems};
+ghost use Rattle.shared_words.specs.Answers.{ReturnsItems};
 ghost use Rattle.poly_texts.specs.Lists.{lists_of};
 ghost use Rattle.poly_place.specs.Placements.{cells_cmp, is_below};
 ghost use Rattle.poly_place.specs.Tables.{grid_cells, has_bit};

@@ -2,7 +2,7 @@
 ghost use Rattle.std.specs.Prelude.{◌≡◌, false, length, replicate, IfOk};
 ghost use Rattle.poly_cells.specs.Coordinates.{coordinates};
 ghost use Rattle.poly_cells.specs.Shapes.{AllInGrid};
-ghost use Rattle.cover_problem.specs.Answers.{ReturnsItems};
+ghost use Rattle.shared_words.specs.Answers.{ReturnsItems};
 ghost use Rattle.poly_place.specs.Tables.{IsCellTable, AddsCells, grid_cells, bit_index, has_bit};
 
 use poly_cells::Cell;

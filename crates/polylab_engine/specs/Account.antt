@@ -5,7 +5,7 @@
 -- Example: two states of the small problem's run, X6 at option 1 after the choices 4 5 and X2 after 4 5 1: the account keeps the visit 4 5 1, and
 -- has 2 steps and one X2 state, at level 3. proofs/JobExamples.antt computes it.
 use Rattle.std.specs.Prelude.{ℕ, suc, ◌+◌, ◌<◌, ◌≡◌, Bool, ◌&&◌, List, [], ◌∷◌, ◌++◌, length, map, slice_index, replicate, if◌then◌else◌}
-use Rattle.cover_problem.specs.Lists.{numbers}
+use Rattle.shared_words.specs.Lists.{numbers}
 use Rattle.cover_problem.specs.Problem.{ProblemValue}
 use Rattle.x_steps.specs.declared.event.Event.{Event}
 use Rattle.x_steps.specs.StateValue.{StateValue}

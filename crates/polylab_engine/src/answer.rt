@@ -10,7 +10,7 @@ ghost use Rattle.debug_script.specs.Input.{raw_lines};
 ghost use Rattle.x_snapshot.specs.Judged.{snapshot_of};
 ghost use Rattle.polylab_engine.specs.Resumed.{resume_output};
 ghost use Rattle.polylab_engine.specs.Outcome.{refusal_words, resumed_of, job_outcome, cover_outcome, puzzle_outcome, listing_of, output_of, HasOutcome, ForReading, cover_answer, puzzle_answer, AnswersPuzzle};
-ghost use Rattle.cover_problem.specs.Answers.{ReturnsItems};
+ghost use Rattle.shared_words.specs.Answers.{ReturnsItems};
 ghost use Rattle.x_snapshot.specs.Refusals.{TellsFault};
 
 use crate::classes::count_classes;

@@ -4,8 +4,8 @@ ghost use Rattle.polylab_engine.specs.Refusals.{IsWantOrPool};
 ghost use Rattle.poly_place.specs.Packings.{packing_problem};
 ghost use Rattle.polylab_engine.specs.Classified.{packings_of, classes_output, lines_of_classes};
 ghost use Rattle.poly_place.specs.Listing.{AreExactCovers};
-ghost use Rattle.x_texts.specs.Writes.{AddsLines};
-ghost use Rattle.cover_problem.specs.Answers.{ReturnsItems};
+ghost use Rattle.text_lines.specs.Writes.{AddsLines};
+ghost use Rattle.shared_words.specs.Answers.{ReturnsItems};
 
 use crate::fault::JobFault;
 use crate::packed::count_text;

@@ -5,8 +5,8 @@ ghost use Rattle.polylab_engine.specs.First.{cover_end, first_cover_output};
 ghost use Rattle.polylab_engine.specs.Output.{cover_output, report_text};
 ghost use Rattle.text_lines.specs.Writing.{text_of};
 ghost use Rattle.x_texts.specs.Words.{visit_words};
-ghost use Rattle.x_texts.specs.Writes.{AddsLines};
-ghost use Rattle.cover_problem.specs.Answers.{ReturnsItems};
+ghost use Rattle.text_lines.specs.Writes.{AddsLines};
+ghost use Rattle.shared_words.specs.Answers.{ReturnsItems};
 
 use crate::fault::JobFault;
 use crate::report::Report;

@@ -4,7 +4,7 @@ ghost use Rattle.debug_script.specs.Input.{raw_lines};
 ghost use Rattle.debug_script.specs.Refusals.{MayEnd};
 ghost use Rattle.polylab_engine.specs.Debugged.{debug_output};
 ghost use Rattle.polylab_engine.specs.Refusals.{IsWantOrPool};
-ghost use Rattle.cover_problem.specs.Answers.{ReturnsItems};
+ghost use Rattle.shared_words.specs.Answers.{ReturnsItems};
 
 use crate::fault::JobFault;
 use cover_problem::{Problem, Table};

@@ -2,7 +2,7 @@
 ghost use Rattle.std.specs.Prelude.{◌≡◌, IfErr};
 ghost use Rattle.std.specs.Thread.{IsSync};
 ghost use Rattle.byte_streams.specs.Stream.{Takes};
-ghost use Rattle.cover_problem.specs.Answers.{Returns, ReturnsItems};
+ghost use Rattle.shared_words.specs.Answers.{Returns, ReturnsItems};
 ghost use Rattle.debug_script.specs.Input.{raw_lines};
 ghost use Rattle.polylab_engine.specs.Debugged.{debug_output};
 ghost use Rattle.polylab_engine.specs.Output.{whole_report};

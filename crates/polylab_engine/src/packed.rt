@@ -4,7 +4,7 @@ ghost use Rattle.std.specs.Prelude.{◌<◌, IfErr};
 ghost use Rattle.polylab_engine.specs.Packed.{solve_output, count_output, count_text, options_output};
 ghost use Rattle.polylab_engine.specs.First.{packings_end, first_packings_output};
 ghost use Rattle.text_lines.specs.Writing.{line_text};
-ghost use Rattle.cover_problem.specs.Answers.{ReturnsItems, Adds};
+ghost use Rattle.shared_words.specs.Answers.{ReturnsItems, Adds};
 
 use crate::fault::JobFault;
 use crate::report::Report;

@@ -7,8 +7,8 @@ ghost use Rattle.x_branches.specs.Branch.{whole_run};
 ghost use Rattle.lab_book.specs.Posted.{IsFinished};
 ghost use Rattle.polylab_engine.specs.Account.{book_visits};
 ghost use Rattle.polylab_engine.specs.Output.{tally_lines, total_lines, whole_report};
-ghost use Rattle.x_texts.specs.Writes.{AddsLines};
-ghost use Rattle.cover_problem.specs.Answers.{Returns};
+ghost use Rattle.text_lines.specs.Writes.{AddsLines};
+ghost use Rattle.shared_words.specs.Answers.{Returns};
 
 use crate::visits::Visits;
 use cover_problem::Lists;

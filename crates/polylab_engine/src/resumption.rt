@@ -6,7 +6,7 @@ ghost use Rattle.x_snapshot.specs.Snapshot.{IsSnapshot, at_state};
 ghost use Rattle.polylab_engine.specs.Stretch.{end_at};
 ghost use Rattle.polylab_engine.specs.Searcher.{stands};
 ghost use Rattle.polylab_engine.specs.Resumed.{branch_end, resume_output, stop_of, rest_text, snapshot_position, report_up_to};
-ghost use Rattle.cover_problem.specs.Answers.{ReturnsItems};
+ghost use Rattle.shared_words.specs.Answers.{ReturnsItems};
 
 use crate::cover::report_text;
 use crate::report::Report;

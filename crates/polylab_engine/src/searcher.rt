@@ -1,6 +1,6 @@
 //! A search by one of the tables. Where none was asked for it may go on by the other one.
 ghost use Rattle.std.specs.Prelude.{◌≡◌, IfOk};
-ghost use Rattle.cover_problem.specs.Answers.{Returns};
+ghost use Rattle.shared_words.specs.Answers.{Returns};
 ghost use Rattle.cover_problem.specs.Problem.{IsProblem};
 ghost use Rattle.x_steps.specs.StateValue.{start};
 ghost use Rattle.x_steps.specs.StateView.{state_value, IsState};

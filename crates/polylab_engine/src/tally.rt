@@ -1,7 +1,7 @@
 //! What a search comes to, counted walk by walk.
 ghost use Rattle.std.specs.Prelude.{◌≡◌, ◌≤◌, ◌↔◌, length, replicate, OnOk, IsTrue, IsSomeAnd};
 ghost use Rattle.polylab_engine.specs.Account.{AreSums, with_walk, empty_account, kept_with, visits_with, report_of};
-ghost use Rattle.cover_problem.specs.Answers.{Returns, ReturnsItems};
+ghost use Rattle.shared_words.specs.Answers.{Returns, ReturnsItems};
 
 use crate::count::Count;
 use crate::report::Report;

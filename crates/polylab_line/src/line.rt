@@ -1,6 +1,7 @@
 //! The command line: which job the words ask for.
 
 ghost use Rattle.std.specs.Prelude.{◌≡◌, ◌≤◌, IfOk, IsTrue};
+ghost use Rattle.shared_words.specs.Workers.{most_workers};
 ghost use Rattle.polylab_engine.specs.Jobs.{is_first};
 ghost use Rattle.polylab_line.specs.Line.{status_of};
 
@@ -8,6 +9,7 @@ use crate::help::{self, JobHelp};
 use clap::error::ErrorKind;
 use clap::{Arg, ArgAction, ArgMatches, Command, Error, value_parser};
 use polylab_engine::{CoverJob, Job, PuzzleJob, TableKind};
+use shared_words::MOST_WORKERS;
 use std::alloc::{AllocError, Global};
 
 /// A job, how many workers do it, 1 to 32, and the table that was asked for, if one was.
@@ -72,7 +74,7 @@ fn flag<'a>(alloc: Global, name: &'static str, help: &'static str) -> Arg<'a> {
 /// The option that says how many workers search.
 fn workers<'a>(alloc: Global) -> Arg<'a> {
     option(alloc, "workers", "N")
-        .value_parser(value_parser!(u32).range(1..=32))
+        .value_parser(value_parser!(u32).range(1..=i64::from(MOST_WORKERS)))
         // So the search always gets a number, said or not.
         .default_value("1")
         .help(help::WORKERS)
@@ -147,10 +149,10 @@ fn command<'a>(alloc: Global) -> Result<Command<'a>, AllocError> {
 /// How many workers the words of a job ask for. That it is 1 to 32, and 1 where it isn't said, is `clap`'s to see; its answer is
 /// looked at once more.
 fn workers_in(words: &ArgMatches<'_>) -> u32
-    ensures { (1 ≤ result) × (result ≤ 32) }
+    ensures { (1 ≤ result) × (result ≤ most_workers) }
 {
     match words.get_one::<u32>("workers") {
-        Some(workers) if workers >= 1 && workers <= 32 => workers,
+        Some(workers) if workers >= 1 && workers <= MOST_WORKERS => workers,
         _ => 1,
     }
 }
@@ -167,7 +169,7 @@ fn table_in(words: &ArgMatches<'_>) -> Option<TableKind> {
 
 /// What the words ask for.
 fn request_in(matches: &ArgMatches<'_>) -> Request
-    ensures { (1 ≤ result.workers) × (result.workers ≤ 32) }
+    ensures { (1 ≤ result.workers) × (result.workers ≤ most_workers) }
 {
     // `clap` asks for a subcommand, so this isn't met. Any job would do here.
     let Some((name, words)) = matches.subcommand() else {
@@ -249,7 +251,7 @@ fn refused(alloc: Global, error: &Error) -> LineFault {
 
 /// Reads the words of a command line, without the program's name.
 pub fn parse_line(alloc: Global, words: &[&str]) -> Result<Request, LineFault>
-    ensures workers { IfOk result (λ asked. (1 ≤ asked.workers) × (asked.workers ≤ 32)) }
+    ensures workers { IfOk result (λ asked. (1 ≤ asked.workers) × (asked.workers ≤ most_workers)) }
     ensures alone { IfOk result (λ asked. IsTrue (is_first asked.job) → asked.workers ≡ 1) }
 {
     let Ok(command) = command(alloc) else {

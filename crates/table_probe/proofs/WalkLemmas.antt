@@ -1,6 +1,6 @@
 -- A walk along a rising list of numbers up to n, from each to the next.
 use Rattle.std.proofs.Common.{◌≡◌, ℕ, ◌+◌, ◌-◌, ◌<◌, ◌≤◌, true, Option, Some, None, List, sym, subst, arith, IfSome}
-use Rattle.cover_problem.specs.Lists.{has, above, RisesFrom}
+use Rattle.shared_words.specs.Lists.{has, above, RisesFrom}
 use Rattle.cover_problem.proofs.RisingLemmas.{above_is}
 
 -- how much of the numbers up to n is ahead of the next one

@@ -1,6 +1,7 @@
 //! Lines of words and numbers, as they are written: one space between two, and a newline after the last.
-ghost use Rattle.std.specs.Prelude.{◌≡◌, ◌++◌, ◌∷◌, [], map, OnOk};
-ghost use Rattle.text_lines.specs.Writing.{words_after, line_text};
+ghost use Rattle.std.specs.Prelude.{◌∷◌, [], map};
+ghost use Rattle.shared_words.specs.Answers.{Adds};
+ghost use Rattle.text_lines.specs.Writes.{AddsWords, AddsLine};
 
 use itoa::{Buffer, Integer};
 use std::alloc::AllocError;
@@ -8,7 +9,7 @@ use std::alloc::AllocError;
 /// Writes a word after another.
 #[inline]
 pub fn write_word(text: &mut Vec<u8>, word: &str) -> Result<(), AllocError>
-    ensures { OnOk result (text.new.items ≡ text.old.items ++ 32 ∷ word.now) }
+    ensures { Adds result text.old text.new (32 ∷ word.now) }
 {
     // The blank stands before the word, so the last word of a line needs no case of its own.
     text.push(b' ')?;
@@ -18,7 +19,7 @@ pub fn write_word(text: &mut Vec<u8>, word: &str) -> Result<(), AllocError>
 /// Writes a number after a word.
 #[inline]
 pub fn write_number<N: Integer + Drop>(text: &mut Vec<u8>, number: N) -> Result<(), AllocError>
-    ensures { OnOk result (text.new.items ≡ text.old.items ++ 32 ∷ N.text number) }
+    ensures { Adds result text.old text.new (32 ∷ N.text number) }
 {
     // The digits are made on the stack, so no other memory is asked for than the text's.
     let mut buffer = Buffer::new();
@@ -27,7 +28,7 @@ pub fn write_number<N: Integer + Drop>(text: &mut Vec<u8>, number: N) -> Result<
 
 /// Writes numbers, each after a word.
 pub fn write_numbers<N: Integer + Drop>(text: &mut Vec<u8>, numbers: &[N]) -> Result<(), AllocError>
-    ensures { OnOk result (text.new.items ≡ text.old.items ++ words_after (map N.text numbers.now)) }
+    ensures { AddsWords result text.old text.new (map N.text numbers.now) }
 {
     // One buffer for all: a call of `write_number` for each isn't inlined, and costs twenty-five instructions more.
     let mut buffer = Buffer::new();
@@ -43,7 +44,7 @@ pub fn write_number_line<N: Integer + Drop>(
     key: &str,
     number: N,
 ) -> Result<(), AllocError>
-    ensures { OnOk result (text.new.items ≡ text.old.items ++ line_text (key.now ∷ N.text number ∷ [])) }
+    ensures { AddsLine result text.old text.new (key.now ∷ N.text number ∷ []) }
 {
     text.extend_from_slice(key.as_bytes())?;
     write_number(text, number)?;
@@ -57,7 +58,7 @@ pub fn write_numbers_line<N: Integer + Drop>(
     key: &str,
     numbers: &[N],
 ) -> Result<(), AllocError>
-    ensures { OnOk result (text.new.items ≡ text.old.items ++ line_text (key.now ∷ map N.text numbers.now)) }
+    ensures { AddsLine result text.old text.new (key.now ∷ map N.text numbers.now) }
 {
     text.extend_from_slice(key.as_bytes())?;
     write_numbers(text, numbers)?;

@@ -2,7 +2,7 @@
 use Rattle.std.proofs.Common.{◌≡◌, ℕ, suc, ◌<◌, ◌≤◌, ◌⊎◌, true, Option, Some, None, List, [], ◌∷◌, ◌++◌, filter, refl, sym, ◌∙◌, inl, inr, arith}
 use Rattle.std.specs.Prelude.{nat_lt}
 use Rattle.std.proofs.lemmas.Bool.{lt-ltb, le-ltb, ltb-true, cases_lt}
-use Rattle.cover_problem.specs.Lists.{has, above, RisesFrom}
+use Rattle.shared_words.specs.Lists.{has, above, RisesFrom}
 use Rattle.cover_problem.proofs.MemberLemmas.{has_filter_in}
 use Rattle.cover_problem.proofs.NumberLemmas.{rises_weaker}
 use Rattle.x_steps.proofs.ListingLemmas.{Lists, lists_none, lists_member, lists_more, lists_all}

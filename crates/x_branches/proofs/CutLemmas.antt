@@ -4,7 +4,7 @@ use Rattle.std.specs.Prelude.{◌↔◌, nat_lt}
 use Rattle.std.proofs.lemmas.Bool.{cases_lt, cases_order, lt-ltb, ltb-true, false≢true}
 use Rattle.std.proofs.lemmas.List.{get_or-drop, nil_from_length}
 use Rattle.cover_problem.specs.Problem.{ProblemValue}
-use Rattle.cover_problem.specs.Lists.{has}
+use Rattle.shared_words.specs.Lists.{has}
 use Rattle.cover_problem.specs.Path.{IsChoice, IsValid, covered_by}
 use Rattle.cover_problem.proofs.MemberLemmas.{has_filter_in, has_filter}
 use Rattle.cover_problem.proofs.PathLemmas.{valid_push, valid_pop}

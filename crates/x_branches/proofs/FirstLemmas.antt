@@ -5,7 +5,7 @@ use Rattle.std.specs.List.{slice_get}
 use Rattle.std.proofs.lemmas.Bool.{cases_lt, cases_order, lt-ltb, le-ltb, ltb-true, false≢true}
 use Rattle.std.proofs.lemmas.List.{drop_all, length-take-le, take-append-le, take-append-drop, get_or-take, get_or_append_left}
 use Rattle.std.proofs.lemmas.Option.{slice_get-get_or}
-use Rattle.cover_problem.specs.Lists.{has, above, RisesFrom}
+use Rattle.shared_words.specs.Lists.{has, above, RisesFrom}
 use Rattle.cover_problem.specs.Problem.{ProblemValue}
 use Rattle.cover_problem.specs.Path.{IsValid, covered_by}
 use Rattle.cover_problem.proofs.CoverLemmas.{valid_split}

@@ -1,6 +1,6 @@
 -- At its mark a runner has no steps, no visits and no counts.
 use Rattle.std.proofs.Common.{◌≡◌, ◌↔◌, Bool, IsTrue, ℕ, ◌+◌, List, [], ◌∷◌, length, map, replicate, refl, sym, ap, ◌∙◌, subst}
-use Rattle.cover_problem.specs.Lists.{numbers}
+use Rattle.shared_words.specs.Lists.{numbers}
 use Rattle.cover_problem.specs.Problem.{ProblemValue, IsProblem}
 use Rattle.cover_problem.proofs.NumberLemmas.{length-numbers}
 use Rattle.x_steps.specs.StateValue.{StateValue}

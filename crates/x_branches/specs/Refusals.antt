@@ -7,7 +7,7 @@
 -- computes it.
 use Rattle.std.specs.Prelude.{ℕ, ◌<◌, ◌≡◌, ◌+◌, true, false, Option, List, [], length, map}
 use Rattle.std.specs.List.{slice_get}
-use Rattle.cover_problem.specs.Lists.{has, numbers}
+use Rattle.shared_words.specs.Lists.{has, numbers}
 use Rattle.cover_problem.specs.Problem.{ProblemValue}
 use Rattle.x_steps.specs.declared.fault.AtFault.TheVariants as steps
 use Rattle.x_steps.specs.StateValue.{StateValue}

@@ -4,7 +4,7 @@
 -- (computed in proofs/CutExamples.antt).
 use Rattle.std.specs.Prelude.{ℕ, nat_lt, Bool, Result, List, [], ◌∷◌, ◌++◌, filter, take, drop}
 use Rattle.std.specs.Global.{Vec}
-use Rattle.cover_problem.specs.Answers.{ReturnsItems}
+use Rattle.shared_words.specs.Answers.{ReturnsItems}
 use Rattle.cover_problem.specs.Problem.{ProblemValue}
 use Rattle.cover_problem.specs.Covering.{list_of}
 use Rattle.x_steps.specs.StateValue.{StateValue}

@@ -1,7 +1,7 @@
 //! Cuts: where a run is parted.
 ghost use Rattle.std.specs.Prelude.{◌≡◌, ◌↔◌, [], IfOk, IfErr, OnOk, IsTrue};
-ghost use Rattle.cover_problem.specs.Answers.{Returns};
-ghost use Rattle.x_steps.specs.Answers.{IfRefused};
+ghost use Rattle.shared_words.specs.Answers.{Returns};
+ghost use Rattle.cover_problem.specs.Answers.{IfRefused};
 ghost use Rattle.x_steps.specs.Steps.{Fits};
 ghost use Rattle.x_branches.specs.Cut.{cut_state, path_cut, IsCut, IsNoCut};
 ghost use Rattle.x_branches.specs.declared.fault.CutFault as cut_faults;

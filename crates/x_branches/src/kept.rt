@@ -1,6 +1,6 @@
 //! Stretches in few bytes, as one keeps them who has many.
 ghost use Rattle.std.specs.Prelude.{◌≡◌, ◌↔◌, ◌++◌, ◌∷◌, [], ◌<◌, ◌≤◌, ◌-◌, IfOk, IfErr, OnOk, OnErr, IsTrue, Some, length, take, replicate, slice_get};
-ghost use Rattle.cover_problem.specs.Answers.{Returns, ReturnsItems};
+ghost use Rattle.shared_words.specs.Answers.{Returns, ReturnsItems};
 ghost use Rattle.x_steps.specs.StateView.{state_value};
 ghost use Rattle.x_steps.specs.Run.{steps_between};
 ghost use Rattle.x_codes.specs.StateCode.{path_of};

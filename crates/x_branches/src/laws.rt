@@ -1,6 +1,6 @@
 //! Laws of cuts, over the definitions alone: each is a function that does nothing, whose contract is the law.
 ghost use Rattle.std.specs.Prelude.{ℕ, ◌≡◌, ◌<◌, ◌↔◌, true, List, ◌∷◌, length, take, drop};
-ghost use Rattle.cover_problem.specs.Lists.{has};
+ghost use Rattle.shared_words.specs.Lists.{has};
 ghost use Rattle.cover_problem.specs.Problem.{ProblemValue};
 ghost use Rattle.x_steps.specs.StateValue.{StateValue};
 ghost use Rattle.x_steps.specs.Steps.{Fits};

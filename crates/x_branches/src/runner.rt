@@ -1,10 +1,10 @@
 //! Runners: a search within one branch of a run, with the stretch of its steps that was not posted yet.
 ghost use Rattle.std.specs.Prelude.{◌≡◌, ◌<◌, ◌+◌, ◌-◌, ◌↔◌, ◌++◌, [], length, true};
 ghost use Rattle.std.specs.Prelude.{IfOk, IfErr, OnOk, OnErr, IsErr, IsTrue};
-ghost use Rattle.cover_problem.specs.Answers.{Returns};
+ghost use Rattle.shared_words.specs.Answers.{Returns, RefusedUnchanged};
 ghost use Rattle.cover_problem.specs.Problem.{IsProblem};
-ghost use Rattle.x_steps.specs.Answers.{ReturnsRows, ReturnsRow, RefusedUnchanged};
-ghost use Rattle.cover_problem.specs.Lists.{LosesLast};
+ghost use Rattle.x_steps.specs.Answers.{ReturnsRows, ReturnsRow};
+ghost use Rattle.shared_words.specs.Lists.{LosesLast};
 ghost use Rattle.x_steps.specs.StateView.{state_value};
 ghost use Rattle.x_steps.specs.Steps.{event_of, is_visit};
 ghost use Rattle.x_steps.specs.Run.{steps_between};

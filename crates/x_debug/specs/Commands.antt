@@ -10,7 +10,7 @@ use Rattle.std.specs.Prelude.{ℕ, ◌≡◌, ◌≤◌, ◌-◌, nat_lt, Bool, 
 use Rattle.std.specs.Global.{Vec}
 use Rattle.std.specs.Borrow.{Bor}
 use Rattle.text_lines.specs.Writing.{line_text, text_of}
-use Rattle.cover_problem.specs.Answers.{Adds}
+use Rattle.shared_words.specs.Answers.{Adds}
 use Rattle.cover_problem.specs.Problem.{ProblemValue}
 use Rattle.x_steps.specs.declared.state.State.{State}
 use Rattle.x_steps.specs.StateValue.{StateValue}

@@ -7,7 +7,7 @@ use Rattle.std.proofs.lemmas.List.{length-map}
 use Rattle.text_lines.specs.Writing.{is_word, line_text, text_of}
 use Rattle.text_lines.specs.Each.{◌>>=◌}
 use Rattle.text_lines.proofs.NumberLemmas.{reads_printed}
-use Rattle.cover_problem.specs.Lists.{has, are_distinct, numbers}
+use Rattle.shared_words.specs.Lists.{has, are_distinct, numbers}
 use Rattle.cover_problem.specs.Problem.{ProblemValue, IsProblem, is_item, name_at}
 use Rattle.cover_problem.specs.Table.{IsCoveredList}
 use Rattle.cover_problem.proofs.BoundLemmas.{item_bounds, few}

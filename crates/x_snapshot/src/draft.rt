@@ -5,7 +5,7 @@ ghost use Rattle.x_texts.specs.Breaks.{are_breaks};
 ghost use Rattle.x_snapshot.specs.Snapshot.{snapshot_runner};
 ghost use Rattle.x_snapshot.specs.Judged.{judged_parts};
 ghost use Rattle.x_snapshot.specs.Reader.{parts_of, Says};
-ghost use Rattle.cover_problem.specs.Answers.{Returns};
+ghost use Rattle.shared_words.specs.Answers.{Returns};
 ghost use Rattle.x_snapshot.specs.Refusals.{TellsFault};
 
 use crate::fault::SnapshotFault;

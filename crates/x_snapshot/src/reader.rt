@@ -8,7 +8,7 @@ ghost use Rattle.x_snapshot.specs.Reader as spec;
 ghost use Rattle.x_snapshot.specs.Reader.{parts_of, Reads, Says};
 ghost use Rattle.x_snapshot.specs.ReadRefusals.{IsReadRefused, fault_from};
 ghost use Rattle.x_snapshot.specs.Judged.{snapshot_of};
-ghost use Rattle.cover_problem.specs.Answers.{Returns};
+ghost use Rattle.shared_words.specs.Answers.{Returns};
 ghost use Rattle.x_snapshot.specs.Refusals.{TellsFault};
 
 mod breaks;

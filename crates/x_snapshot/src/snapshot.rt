@@ -3,7 +3,7 @@ ghost use Rattle.std.specs.Prelude.{◌≡◌, IfErr, OnOk};
 ghost use Rattle.x_steps.specs.StateView.{state_value};
 ghost use Rattle.x_snapshot.specs.Snapshot.{IsSnapshot, at_state, parts_value, MakeSnapshot, Lends};
 ghost use Rattle.x_snapshot.specs.Refusals.{MakeNone};
-ghost use Rattle.cover_problem.specs.Answers.{Returns};
+ghost use Rattle.shared_words.specs.Answers.{Returns};
 
 use crate::fault::SnapshotFault;
 use crate::verdict::check_parts;

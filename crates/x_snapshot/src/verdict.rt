@@ -6,7 +6,7 @@ ghost use Rattle.x_branches.specs.Refusals.{CanStart};
 ghost use Rattle.x_snapshot.specs.Snapshot.{IsCutIfAny, choices_of};
 ghost use Rattle.x_snapshot.specs.Snapshot.{AreOnRun, AreInside, MakeSnapshot, cut_if_any, runner_from};
 ghost use Rattle.x_snapshot.specs.Refusals.{cut_fault_of, start_fault_of, IsCutRefused, IsStartRefused, AreRefused, MakeNone};
-ghost use Rattle.cover_problem.specs.Answers.{Returns};
+ghost use Rattle.shared_words.specs.Answers.{Returns};
 
 use crate::breakpoint::check_breaks;
 use crate::fault::SnapshotFault;

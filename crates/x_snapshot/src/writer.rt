@@ -6,8 +6,8 @@ ghost use Rattle.x_texts.specs.Breaks.{is_break};
 ghost use Rattle.x_snapshot.specs.Writer as spec;
 ghost use Rattle.x_texts.specs.Words.{break_words, lent_cut_words};
 ghost use Rattle.x_snapshot.specs.Writer.{lines_of_breaks, snapshot_text, low_words, high_words};
-ghost use Rattle.x_texts.specs.Writes.{AddsLines};
-ghost use Rattle.cover_problem.specs.Answers.{ReturnsItems, AddsLine};
+ghost use Rattle.text_lines.specs.Writes.{AddsLines, AddsLine};
+ghost use Rattle.shared_words.specs.Answers.{ReturnsItems};
 
 use crate::snapshot::Snapshot;
 use cover_problem::{Problem, write_cover};

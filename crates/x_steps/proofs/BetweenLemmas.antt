@@ -5,7 +5,7 @@ use Rattle.std.proofs.lemmas.List.{map-append, length-map, get_or-map}
 use Rattle.std.proofs.lemmas.List.Elements.{filter-append}
 use Rattle.std.proofs.lemmas.List.Sums.{sum_by-append}
 use Rattle.cover_problem.specs.Problem.{ProblemValue}
-use Rattle.cover_problem.specs.Lists.{numbers}
+use Rattle.shared_words.specs.Lists.{numbers}
 use Rattle.cover_problem.proofs.NumberLemmas.{length-numbers}
 use Rattle.x_steps.specs.declared.state.Label.TheVariants.{Done}
 use Rattle.x_steps.specs.StateValue.{StateValue}

@@ -1,7 +1,7 @@
 -- The run's length by its entries of X2: eight steps for one that finds an active item, four for a visit, but one.
 use Rattle.std.proofs.Common.{◌≡◌, ℕ, zero, suc, ◌+◌, ◌*◌, ◌<◌, ◌⊎◌, Bool, true, false, cond, Option, Some, List, [], ◌∷◌, ◌++◌, length, refl, ap, ◌∙◌, inl, inr, arith, length-append}
 use Rattle.std.specs.Prelude as prelude
-use Rattle.cover_problem.specs.Lists.{above}
+use Rattle.shared_words.specs.Lists.{above}
 use Rattle.cover_problem.specs.Problem.{ProblemValue}
 use Rattle.cover_problem.specs.Covering.{active}
 use Rattle.cover_problem.specs.Path.{covered_by}

@@ -2,7 +2,7 @@
 use Rattle.std.proofs.Common.{◌≡◌, ℕ, suc, ◌<◌, ◌≤◌, true, Option, Some, None, List, [], ◌∷◌, ◌++◌, map, arith, refl, sym, ap, ◌∙◌, subst, append_assoc, append-nil}
 use Rattle.std.proofs.lemmas.Bool.{le-ltb, lt-ltb}
 use Rattle.std.proofs.lemmas.List.{map-append}
-use Rattle.cover_problem.specs.Lists.{has, above, RisesFrom}
+use Rattle.shared_words.specs.Lists.{has, above, RisesFrom}
 use Rattle.cover_problem.specs.Problem.{ProblemValue}
 use Rattle.cover_problem.specs.Covering.{active, remaining, list_of}
 use Rattle.cover_problem.proofs.ActiveLemmas.{active_rises, active_in}

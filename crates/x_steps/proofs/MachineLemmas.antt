@@ -2,7 +2,7 @@
 use Rattle.std.proofs.Common.{◌≡◌, ℕ, suc, ◌-◌, ◌<◌, ◌≤◌, List, [], ◌∷◌, ◌++◌, length, take, true, false, nat_lt, Bool, Option, Some, arith, refl, sym, ap, ◌∙◌, subst, append-nil, length-append, if◌then◌else◌}
 use Rattle.std.proofs.lemmas.List.{same_from_push, nil_from_length}
 use Rattle.std.proofs.Math.Seq.{take-append_seam}
-use Rattle.cover_problem.specs.Lists.{has, above}
+use Rattle.shared_words.specs.Lists.{has, above}
 use Rattle.cover_problem.specs.Problem.{ProblemValue, IsProblem, option_at}
 use Rattle.cover_problem.specs.Covering.{active, choice, list_of}
 use Rattle.cover_problem.specs.Path.{IsChoice, IsValid, covered_by, others}

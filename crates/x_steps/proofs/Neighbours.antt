@@ -4,7 +4,7 @@ use Rattle.std.proofs.Math.Seq.{drop-cons}
 use Rattle.std.proofs.lemmas.List.{take-append-drop}
 use Rattle.std.specs.Prelude as prelude
 use Rattle.std.proofs.lemmas.Bool.{cases_Bool, ltb-true, ltb-false, lt-ltb}
-use Rattle.cover_problem.specs.Lists.{RisesFrom, above, below, last_of}
+use Rattle.shared_words.specs.Lists.{RisesFrom, above, below, last_of}
 use Rattle.cover_problem.specs.Problem.{ProblemValue}
 use Rattle.cover_problem.specs.Covering.{active}
 use Rattle.cover_problem.specs.Path.{covered_by}

@@ -3,7 +3,7 @@ use Rattle.std.proofs.Common.{◌≡◌, ℕ, ◌+◌, ◌<◌, ◌≤◌, ◌�
 use Rattle.std.proofs.Math.Seq.{take-suc}
 use Rattle.std.proofs.lemmas.Bool.{cases_lt, cases_eq, false≢true, ne_eqb}
 use Rattle.std.proofs.lemmas.List.Sums.{length-filter, count_by-le-length}
-use Rattle.cover_problem.specs.Lists.{has, numbers}
+use Rattle.shared_words.specs.Lists.{has, numbers}
 use Rattle.cover_problem.specs.Problem.{ProblemValue}
 use Rattle.cover_problem.specs.Covering.{active, is_remaining, remaining, list_of, choice}
 use Rattle.cover_problem.proofs.ActiveLemmas.{active_in, active_from}

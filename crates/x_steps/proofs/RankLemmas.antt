@@ -3,7 +3,7 @@ use Rattle.std.proofs.Common.{◌≡◌, ℕ, zero, suc, ◌+◌, ◌*◌, ◌^�
 use Rattle.std.proofs.Math.Nat.{pow-suc, pow-zero, mul-le-mul_right, suc-mul, mul_comm}
 use Rattle.std.proofs.lemmas.List.{map-append, length-map}
 use Rattle.std.specs.Prelude as prelude
-use Rattle.cover_problem.specs.Lists.{above}
+use Rattle.shared_words.specs.Lists.{above}
 use Rattle.cover_problem.specs.Problem.{ProblemValue}
 use Rattle.cover_problem.specs.Covering.{active}
 use Rattle.cover_problem.specs.Path.{IsValid, covered_by}

@@ -1,6 +1,6 @@
 -- The step table, backwards and forwards, computed on the small problem: c e, a d g, b c f, a d f, b g, d e g.
 use Rattle.std.proofs.Common.{◌≡◌, [], ◌∷◌, map, refl, sym, ap, ◌∙◌, arith}
-use Rattle.cover_problem.specs.Lists.{numbers}
+use Rattle.shared_words.specs.Lists.{numbers}
 use Rattle.cover_problem.specs.Covering.{active, remaining, choice}
 use Rattle.cover_problem.specs.Path.{taken, covered_by}
 use Rattle.cover_problem.proofs.CoverExamples.{small}

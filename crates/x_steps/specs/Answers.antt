@@ -1,8 +1,7 @@
--- What a call returns, and why it is refused.
-use Rattle.std.specs.Prelude.{ℕ, ◌≡◌, Option, option_map, Result, IfOk, IfErr, List}
+-- What a call returns.
+use Rattle.std.specs.Prelude.{ℕ, ◌≡◌, Option, option_map, Result, IfOk, List}
 use Rattle.std.specs.Global.{Vec}
-use Rattle.cover_problem.specs.declared.fault.Refused.{Refused}
-use Rattle.cover_problem.specs.Answers.{ReturnsItems}
+use Rattle.shared_words.specs.Answers.{ReturnsItems}
 use Rattle.cover_problem.specs.Problem.{ProblemValue}
 use Rattle.cover_problem.specs.Covering.{list_of}
 use Rattle.x_steps.specs.Machine.{remaining_items}
@@ -23,11 +22,3 @@ ReturnsOptions result p c item = ReturnsItems result (list_of p c item)
 -- the call returns the active items, each with the options left for it, unless it has an error
 abbrev pub ReturnsRemaining : {E : Type 0} → Result (Vec (ℕ × Vec ℕ)) E → ProblemValue → List ℕ → Type 0
 ReturnsRemaining result p c = ReturnsRows result (remaining_items p c)
-
--- where the call is refused with this fault, the claim is true
-abbrev pub IfRefused : {X F G : Type 0} → Result X (Refused F G) → F → Type 0 → Type 0
-IfRefused result fault claim = IfErr result (λ r. r.fault ≡ fault → claim)
-
--- the call is refused with this fault alone, and then changes nothing
-abbrev pub RefusedUnchanged : {X F A : Type 0} → Result X F → F → A → A → Type 0
-RefusedUnchanged result fault old new = IfErr result (λ f. (f ≡ fault) × (new ≡ old))

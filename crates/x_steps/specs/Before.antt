@@ -4,7 +4,7 @@
 -- since no option is left for item e (computed in proofs/StepExamples.antt).
 use Rattle.std.specs.Prelude.{ℕ, Option, Some, List, [], ◌∷◌, ◌++◌, if◌then◌else◌}
 use Rattle.std.specs.Prelude as prelude
-use Rattle.cover_problem.specs.Lists.{below, last_of}
+use Rattle.shared_words.specs.Lists.{below, last_of}
 use Rattle.cover_problem.specs.Problem.{ProblemValue}
 use Rattle.x_steps.specs.declared.state.Label.{Label}
 use Rattle.x_steps.specs.declared.state.Label.TheVariants.{X1, X2, X3, X4, X5, X6, X7, X8, Done}

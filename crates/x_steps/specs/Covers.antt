@@ -1,7 +1,7 @@
 -- Paths as sets: all exact covers, each once.
 use Rattle.std.specs.Prelude.{ℕ, ◌≡◌, Bool, List}
 use Rattle.cover_problem.specs.Problem.{ProblemValue}
-use Rattle.cover_problem.specs.Lists.{has}
+use Rattle.shared_words.specs.Lists.{has}
 use Rattle.cover_problem.specs.ExactCover.{IsExactCover}
 use Rattle.x_steps.specs.Order.{IsIn}
 

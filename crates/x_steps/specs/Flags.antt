@@ -1,7 +1,7 @@
 -- A flag for each item.
 use Rattle.std.specs.Prelude.{ℕ, ◌+◌, ◌≤◌, ◌≡◌, Bool, false, not, List, ◌++◌, length, slice_index_or}
 use Rattle.std.specs.List.{list_any}
-use Rattle.cover_problem.specs.Lists.{has}
+use Rattle.shared_words.specs.Lists.{has}
 
 -- of the items up to n those of the list are flagged
 pub record AreFlagsOf (flags : List Bool) (n : ℕ) (c : List ℕ) : Type 0 where

@@ -1,7 +1,7 @@
 -- What a machine stands for, and what it keeps.
 use Rattle.std.specs.Prelude.{ℕ, ◌+◌, ◌-◌, ◌≡◌, ◌≤◌, nat_lt, Bool, true, false, not, Option, Some, None, option_map, List, length, map, filter}
 use Rattle.std.specs.Prelude.{if◌then◌else◌}
-use Rattle.cover_problem.specs.Lists.{has, numbers}
+use Rattle.shared_words.specs.Lists.{has, numbers}
 use Rattle.cover_problem.specs.Problem.{ProblemValue, IsProblem}
 use Rattle.cover_problem.specs.Covering.{active, remaining, list_of}
 use Rattle.x_steps.specs.declared.state.Label.{Label}

@@ -1,6 +1,6 @@
 -- A machine on its way down a path, and up one.
 use Rattle.std.specs.Prelude.{◌≡◌, ◌⊎◌, Bool, List, [], ◌∷◌, ◌++◌, length, ℕ}
-use Rattle.cover_problem.specs.Lists.{above}
+use Rattle.shared_words.specs.Lists.{above}
 use Rattle.cover_problem.specs.Problem.{ProblemValue}
 use Rattle.cover_problem.specs.Path.{covered_by}
 use Rattle.x_steps.specs.declared.state.Label.{Label}

@@ -5,7 +5,7 @@
 use Rattle.std.specs.Prelude.{ℕ, zero, suc, ◌+◌, ◌≤◌, ◌<◌, ◌≡◌, ◌==◌, nat_lt, ◌&&◌, List, [], ◌∷◌, ◌++◌, length, map, filter, count_by}
 use Rattle.std.specs.Prelude.{if◌then◌else◌}
 use Rattle.cover_problem.specs.Problem.{ProblemValue}
-use Rattle.cover_problem.specs.Lists.{numbers}
+use Rattle.shared_words.specs.Lists.{numbers}
 use Rattle.x_steps.specs.declared.state.Label.TheVariants.{Done}
 use Rattle.x_steps.specs.StateValue.{StateValue, start, done}
 use Rattle.x_steps.specs.Steps.{Fits, next, is_entry, is_visit, is_level}

@@ -4,7 +4,7 @@
 -- Example: in the small problem X4 with the path 2 3 is followed by X5 past 2 3: after the options 2 and 3 the item chosen
 -- is e, and it has no option left; covered are then a d g b c f e (computed in proofs/StepExamples.antt).
 use Rattle.std.specs.Prelude.{ℕ, ◌<◌, ◌≡◌, nat_lt, Bool, not, ◌&&◌, true, false, Option, Some, List, [], ◌∷◌, ◌++◌, length, if◌then◌else◌}
-use Rattle.cover_problem.specs.Lists.{above}
+use Rattle.shared_words.specs.Lists.{above}
 use Rattle.cover_problem.specs.Problem.{ProblemValue}
 use Rattle.cover_problem.specs.Covering.{active, remaining, choice}
 use Rattle.cover_problem.specs.Path.{IsChoice, IsValid, taken, covered_by}

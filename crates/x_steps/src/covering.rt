@@ -1,6 +1,6 @@
 //! Whether an item is active, and which item of an option is chosen.
 ghost use Rattle.std.specs.Prelude.{◌≡◌, ◌⊎◌, ◌<◌, ◌≤◌, ◌-◌, ◌^◌, ℕ, length, IsTrue, ◌↔◌, true, false};
-ghost use Rattle.cover_problem.specs.Lists.{has};
+ghost use Rattle.shared_words.specs.Lists.{has};
 ghost use Rattle.cover_problem.specs.Covering.{active, choice};
 ghost use Rattle.x_steps.specs.Machine.{any_active};
 

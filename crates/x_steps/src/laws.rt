@@ -1,6 +1,6 @@
 //! Laws of the run, over the definitions alone: each is a function that does nothing, whose contract is the law.
 ghost use Rattle.std.specs.Prelude.{ℕ, ◌≡◌, ◌<◌, ◌+◌, ◌*◌, ◌++◌, ◌∷◌, [], ◌⊎◌, List, length, map, replicate};
-ghost use Rattle.cover_problem.specs.Lists.{numbers};
+ghost use Rattle.shared_words.specs.Lists.{numbers};
 ghost use Rattle.cover_problem.specs.Problem.{ProblemValue, IsProblem};
 ghost use Rattle.x_steps.specs.StateValue.{StateValue, start, done};
 ghost use Rattle.x_steps.specs.Steps.{Fits, IsBefore};

@@ -2,7 +2,7 @@
 ghost use Rattle.std.specs.Prelude.{◌≡◌, ◌<◌, ◌≤◌, ◌++◌, ◌∷◌, ◌↔◌, [], length, vec_len, vec_capacity, if◌then◌else◌, ℕ, ◌≢◌, IfOk, IfErr};
 ghost use Rattle.std.specs.Prelude.{OnOk, IsErr};
 ghost use Rattle.cover_problem.specs.Problem.{IsProblem};
-ghost use Rattle.x_steps.specs.Answers.{RefusedUnchanged};
+ghost use Rattle.shared_words.specs.Answers.{RefusedUnchanged};
 ghost use Rattle.x_steps.specs.StateValue.{start};
 ghost use Rattle.x_steps.specs.StateView.{state_value};
 ghost use Rattle.x_steps.specs.Steps.{Fits, covered_in, next, event_of, next_cursor};

@@ -2,7 +2,7 @@
 ghost use Rattle.std.specs.Prelude.{◌≡◌, ◌<◌, ◌≤◌, length, [], ◌∷◌};
 ghost use Rattle.cover_problem.specs.Problem.{size_of};
 
-use cover_links::{Block, TableEntry, LinkTable, Offset};
+use cover_links::{Block, LinkTable, Offset, TableEntry};
 use cover_problem::{Problem, Table, read_cover};
 use drawn_problems::SMALL;
 use linked_list_allocator::LocalHeap;

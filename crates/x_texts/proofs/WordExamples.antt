@@ -1,8 +1,6 @@
--- The examples of specs/Breaks.antt, specs/Words.antt, specs/Writes.antt and specs/Ends.antt.
-use Rattle.std.proofs.Common.{◌≡◌, ℕ, List, [], ◌∷◌, ◌++◌, true, false, codes, refl, ap, ◌∙◌}
+-- The examples of specs/Breaks.antt, specs/Words.antt and specs/Ends.antt.
+use Rattle.std.proofs.Common.{◌≡◌, [], ◌∷◌, true, false, codes, refl}
 use Rattle.std.specs.Fmt.{digits}
-use Rattle.std.specs.Global.{Vec}
-use Rattle.text_lines.specs.Writing.{line_text}
 use Rattle.cover_problem.specs.Problem.{ProblemValue}
 use Rattle.x_steps.specs.declared.state.Label.TheVariants.{X5}
 use Rattle.x_steps.specs.declared.state.Cursor.TheVariants.{At}
@@ -10,7 +8,6 @@ use Rattle.x_steps.specs.StateValue.{at}
 use Rattle.x_texts.specs.declared.breakpoint.Break.TheVariants as breakpoints
 use Rattle.x_texts.specs.Breaks.{is_break, are_new}
 use Rattle.x_texts.specs.Words.{state_words, visit_words}
-use Rattle.x_texts.specs.Writes.{WritesLine}
 use Rattle.x_texts.specs.Ends.{word_ends, IsVisitLine, IsClosed}
 
 -- one item, and two options of it
@@ -45,12 +42,6 @@ state_of_words = refl
 visit_of_words : visit_words (4 ∷ 5 ∷ 1 ∷ []) ≡ codes "visit" ∷ codes "4" ∷ codes "5" ∷ codes "1" ∷ []
 unfolding digits
 visit_of_words = refl
-
--- whatever stood before
-line_gained : (old new : Vec ℕ) → new.items ≡ old.items ++ (codes "visit 4 5" ++ 10 ∷ []) → WritesLine old new (visit_words (4 ∷ 5 ∷ []))
-unfolding digits
-line_gained old new e =
-    e ∙ ap (λ (bs : List ℕ). old.items ++ bs) (let same : codes "visit 4 5" ++ 10 ∷ [] ≡ line_text (visit_words (4 ∷ 5 ∷ [])) = refl in same)
 
 ends_of_words : word_ends 5 (codes "4" ∷ codes "15" ∷ codes "1" ∷ []) ≡ 7 ∷ 10 ∷ 12 ∷ []
 ends_of_words = refl

@@ -1,5 +1,4 @@
 pub mod Breaks
 pub mod Ends
 pub mod Words
-pub mod Writes
 pub mod Written

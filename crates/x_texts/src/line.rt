@@ -1,10 +1,9 @@
 //! Lines of states, breakpoints, visits and levels.
 ghost use Rattle.std.specs.Prelude.{◌≡◌, ◌∷◌, true, map};
-ghost use Rattle.cover_problem.specs.Answers.{AddsLine};
+ghost use Rattle.text_lines.specs.Writes.{AddsLine, AddsLines};
 ghost use Rattle.x_steps.specs.StateView.{state_value};
 ghost use Rattle.x_texts.specs.Breaks.{is_break};
 ghost use Rattle.x_texts.specs.Words.{state_words, keyed_point, visit_words, levels_words};
-ghost use Rattle.x_texts.specs.Writes.{AddsLines};
 
 use crate::breakpoint::Break;
 use crate::visit_line::VisitLine;

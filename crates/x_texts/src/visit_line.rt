@@ -1,7 +1,7 @@
 //! The line of a visit, kept for the next visit. In path order neighbours begin alike, and what they share is made into digits once.
 ghost use Rattle.std.specs.Prelude.{◌≡◌, ◌≤◌, ◌<◌, ◌+◌, ◌*◌, ◌++◌, ◌∷◌, [], take, max, length, decimal, map, OnOk, OnErr};
 ghost use Rattle.text_lines.specs.Writing.{line_text};
-ghost use Rattle.cover_problem.specs.Answers.{Returns};
+ghost use Rattle.shared_words.specs.Answers.{Returns};
 ghost use Rattle.x_texts.specs.Ends.{IsVisitLine, LineHasRoom, HoldsLine};
 ghost use Rattle.x_texts.specs.Words.{visit_words};
 

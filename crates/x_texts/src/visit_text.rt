@@ -1,7 +1,7 @@
 //! Visits as text.
 ghost use Rattle.std.specs.Prelude.{◌≡◌, ◌++◌, ◌∷◌, [], map, OnOk, OnErr};
 ghost use Rattle.text_lines.specs.Writing.{text_of};
-ghost use Rattle.cover_problem.specs.Answers.{Returns};
+ghost use Rattle.shared_words.specs.Answers.{Returns};
 ghost use Rattle.x_texts.specs.Words.{visit_words};
 
 use crate::visit_line::VisitLine;

@@ -1,10 +1,10 @@
 //! Words of cuts, states and breakpoints.
 ghost use Rattle.std.specs.Prelude.{◌≡◌, ◌∷◌, [], true, decimal};
-ghost use Rattle.cover_problem.specs.Answers.{Adds};
+ghost use Rattle.shared_words.specs.Answers.{Adds};
 ghost use Rattle.x_texts.specs.Breaks.{is_break};
 ghost use Rattle.x_texts.specs.Words as spec;
 ghost use Rattle.x_texts.specs.Words.{lent_cut_words, point_words};
-ghost use Rattle.x_texts.specs.Writes.{AddsWords};
+ghost use Rattle.text_lines.specs.Writes.{AddsWords};
 
 use crate::breakpoint::Break;
 use cover_problem::Problem;

@@ -1,6 +1,6 @@
 //! A branch is closed, or the book refuses it.
 ghost use Rattle.std.specs.Prelude.{◌≡◌, ◌==◌, true, false, None, OnOk, OnErr};
-ghost use Rattle.cover_problem.specs.Answers.{AddsLine};
+ghost use Rattle.text_lines.specs.Writes.{AddsLine};
 ghost use Rattle.lab_world.specs.Worker.{HoldsTile};
 ghost use Rattle.lab_world.specs.World.{IsSeat};
 ghost use Rattle.debug_acts.specs.Walk.{steps_ahead};

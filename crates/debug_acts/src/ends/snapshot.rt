@@ -1,6 +1,6 @@
 //! Where a search stands, as a snapshot.
 ghost use Rattle.std.specs.Prelude.{◌≡◌, true, IfOk};
-ghost use Rattle.cover_problem.specs.Answers.{Returns, Adds};
+ghost use Rattle.shared_words.specs.Answers.{Returns, Adds};
 ghost use Rattle.x_texts.specs.Breaks.{are_breaks};
 ghost use Rattle.x_snapshot.specs.Snapshot.{choices_of};
 ghost use Rattle.lab_book.specs.Book.{cut_path};

@@ -4,7 +4,7 @@ ghost use Rattle.lab_book.specs.Book.{BookValue};
 ghost use Rattle.lab_world.specs.Worker.{HoldsTile};
 ghost use Rattle.debug_acts.specs.Walk.{back_count, back_lines, gone_back, BacksSome};
 ghost use Rattle.debug_acts.specs.Acts.{DoesBack, DoesPartOfBack};
-ghost use Rattle.x_texts.specs.Writes.{AddsLines};
+ghost use Rattle.text_lines.specs.Writes.{AddsLines};
 
 use crate::walk::write_moved;
 use cover_problem::Table;

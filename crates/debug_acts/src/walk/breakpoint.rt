@@ -1,12 +1,12 @@
 //! Onward to a breakpoint.
 ghost use Rattle.std.specs.Prelude.{◌≡◌, ◌<◌, true, IfSome, IfOk, OnOk, OnErr};
 ghost use Rattle.std.specs.List.{list_all};
-ghost use Rattle.cover_problem.specs.Answers.{Returns, AddsLine};
+ghost use Rattle.shared_words.specs.Answers.{Returns};
+ghost use Rattle.text_lines.specs.Writes.{AddsLine, AddsLines};
 ghost use Rattle.x_texts.specs.Breaks.{is_break};
 ghost use Rattle.lab_world.specs.Worker.{HoldsTile};
 ghost use Rattle.debug_acts.specs.Walk.{RunsOn, MayRun, AddsRun, run_count, run_met, run_visits, stop_line, steps_ahead, visits_ahead, WalksToEnd, WalksTowardsEnd, KeepsLease};
 ghost use Rattle.debug_acts.specs.Acts.{DoesRun, DoesPartOfRun};
-ghost use Rattle.x_texts.specs.Writes.{AddsLines};
 
 use crate::walk::{step_on, walk_on, write_moved};
 use cover_problem::Table;

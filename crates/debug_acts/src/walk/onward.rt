@@ -1,10 +1,10 @@
 //! So many steps onward.
 ghost use Rattle.std.specs.Prelude.{◌<◌, OnOk, OnErr};
-ghost use Rattle.cover_problem.specs.Answers.{Returns};
+ghost use Rattle.shared_words.specs.Answers.{Returns};
 ghost use Rattle.lab_world.specs.Worker.{HoldsTile};
 ghost use Rattle.debug_acts.specs.Walk.{StepsOn, StepsSome, step_count, step_visits, step_lines, KeepsLease};
 ghost use Rattle.debug_acts.specs.Acts.{DoesStep, DoesPartOfStep};
-ghost use Rattle.x_texts.specs.Writes.{AddsLines};
+ghost use Rattle.text_lines.specs.Writes.{AddsLines};
 
 use crate::walk::{walk_on, write_moved};
 use cover_problem::Table;

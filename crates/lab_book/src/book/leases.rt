@@ -1,5 +1,6 @@
 //! Leases are given.
 ghost use Rattle.std.specs.Prelude.{◌≡◌, ◌≤◌, ◌<◌, false, length, IfOk, IfErr, OnErr, IfSome};
+ghost use Rattle.shared_words.specs.Workers.{IsWorker};
 ghost use Rattle.x_steps.specs.StateView.{state_value};
 ghost use Rattle.lab_book.specs.Tile.{is_leased, mark_of};
 ghost use Rattle.lab_book.specs.Tiling.{tile_at};
@@ -121,7 +122,7 @@ impl<'p> Book<'p> {
 
     /// Leases the tile with an id, which has to wait. Refused where no tile has it (1), then where it doesn't wait (2).
     pub fn lease(&mut self, w: u8, id: u64) -> Result<Leased<'p>, BookFault>
-        requires { w ≤ 31 }
+        requires { IsWorker w }
         ensures made { IfOk result (Leases self.old self.new w (Call.Lease id)) }
         ensures can_start { IfOk result (CanBeSearched self.old.problem) }
         ensures worker { IfOk result (λ r. r.lease.worker ≡ w) }
@@ -137,7 +138,7 @@ impl<'p> Book<'p> {
         w: u8,
         id: u64,
     ) -> Result<Leased<'p>, BookFault>
-        requires { w ≤ 31 }
+        requires { IsWorker w }
         ensures made { IfOk result (Leases self.old self.new w (Call.Lease id)) }
         ensures can_start { IfOk result (CanBeSearched self.old.problem) }
         ensures worker { IfOk result (λ r. r.lease.worker ≡ w) }
@@ -155,7 +156,7 @@ impl<'p> Book<'p> {
 
     /// Leases the first tile that waits, or answers None where none does.
     pub fn lease_any(&mut self, w: u8) -> Result<Option<Leased<'p>>, AllocError>
-        requires { w ≤ 31 }
+        requires { IsWorker w }
         ensures made { IfOk result (λ r. Made self.old self.new w Call.LeaseAny (any_reply r)) }
         ensures can_start { IfOk result (λ r. IfSome r (CanBeSearched self.old.problem)) }
         ensures worker { IfOk result (λ r. IfSome r (λ l. l.lease.worker ≡ w)) }
@@ -170,7 +171,7 @@ impl<'p> Book<'p> {
         scribe: &mut S,
         w: u8,
     ) -> Result<Option<Leased<'p>>, AllocError>
-        requires { w ≤ 31 }
+        requires { IsWorker w }
         ensures made { IfOk result (λ r. Made self.old self.new w Call.LeaseAny (any_reply r)) }
         ensures can_start { IfOk result (λ r. IfSome r (CanBeSearched self.old.problem)) }
         ensures worker { IfOk result (λ r. IfSome r (λ l. l.lease.worker ≡ w)) }
@@ -200,7 +201,7 @@ impl<'p> Book<'p> {
     /// Leases the tile with an id, which has to be held: it isn't asked to stop any more. Refused where no tile has the id (1), then
     /// where it isn't held (2).
     pub fn take_held(&mut self, w: u8, id: u64) -> Result<Leased<'p>, BookFault>
-        requires { w ≤ 31 }
+        requires { IsWorker w }
         ensures made { IfOk result (Leases self.old self.new w (Call.TakeHeld id)) }
         ensures can_start { IfOk result (CanBeSearched self.old.problem) }
         ensures worker { IfOk result (λ r. r.lease.worker ≡ w) }
@@ -216,7 +217,7 @@ impl<'p> Book<'p> {
         w: u8,
         id: u64,
     ) -> Result<Leased<'p>, BookFault>
-        requires { w ≤ 31 }
+        requires { IsWorker w }
         ensures made { IfOk result (Leases self.old self.new w (Call.TakeHeld id)) }
         ensures can_start { IfOk result (CanBeSearched self.old.problem) }
         ensures worker { IfOk result (λ r. r.lease.worker ≡ w) }

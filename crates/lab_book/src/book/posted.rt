@@ -1,6 +1,6 @@
 //! What was posted of a book's branch.
 ghost use Rattle.std.specs.Prelude.{◌≡◌, ◌↔◌, length, IsTrue, IfOk};
-ghost use Rattle.cover_problem.specs.Answers.{ReturnsItems};
+ghost use Rattle.shared_words.specs.Answers.{ReturnsItems};
 ghost use Rattle.x_steps.specs.Order.{PathsRise};
 ghost use Rattle.lab_book.specs.Posted.{posted_steps, posted_levels, posted_visits, IsFinished, whole_visits, whole_steps, whole_levels};
 

@@ -1,5 +1,6 @@
 //! Tiles are asked to stop, and what was posted is taken out again.
 ghost use Rattle.std.specs.Prelude.{◌≡◌, ◌≤◌, ◌<◌, true, Ok, Err, IfOk, IfErr, OnOk, length};
+ghost use Rattle.shared_words.specs.Workers.{IsWorker};
 ghost use Rattle.x_steps.specs.StateView.{state_value};
 ghost use Rattle.lab_history.specs.declared.entry.Reply.TheVariants as replies;
 ghost use Rattle.lab_book.specs.Tile.{is_leased, is_free};
@@ -29,7 +30,7 @@ impl<'p> Book<'p> {
     /// Asks the worker of a tile to stop: a tile that waits is held from now on. Refused where no tile has the id (1), then where it
     /// is closed (2).
     pub fn request_stop(&mut self, w: u8, id: u64) -> Result<(), BookFault>
-        requires { w ≤ 31 }
+        requires { IsWorker w }
         ensures made { OnOk result (Made self.old self.new w (Call.RequestStop id) replies.Done) }
         ensures refused { IfErr result (λ f. Refuses self.old self.new w (Call.RequestStop id) f) }
     {
@@ -43,7 +44,7 @@ impl<'p> Book<'p> {
         w: u8,
         id: u64,
     ) -> Result<(), BookFault>
-        requires { w ≤ 31 }
+        requires { IsWorker w }
         ensures made { OnOk result (Made self.old self.new w (Call.RequestStop id) replies.Done) }
         ensures refused { IfErr result (λ f. Refuses self.old self.new w (Call.RequestStop id) f) }
         ensures noted { NotesMade result S.notes scribe.old scribe.new self.old w
@@ -173,7 +174,7 @@ impl<'p> Book<'p> {
     /// A tile that waits or is held goes back to the first of its marks that is a state: the stretches after it are taken out.
     /// Refused where no tile has the id (1), where it is leased or closed (2), and where the state is none of its marks (7).
     pub fn put_back(&mut self, w: u8, id: u64, state: &State) -> Result<(), BookFault>
-        requires { w ≤ 31 }
+        requires { IsWorker w }
         ensures made { OnOk result (Made self.old self.new w (back_to id state.now) replies.Done) }
         ensures refused { IfErr result (Refuses self.old self.new w (back_to id state.now)) }
     {
@@ -188,7 +189,7 @@ impl<'p> Book<'p> {
         id: u64,
         state: &State,
     ) -> Result<(), BookFault>
-        requires { w ≤ 31 }
+        requires { IsWorker w }
         ensures made { OnOk result (Made self.old self.new w (back_to id state.now) replies.Done) }
         ensures refused { IfErr result (Refuses self.old self.new w (back_to id state.now)) }
         ensures noted { NotesMade result S.notes scribe.old scribe.new self.old w

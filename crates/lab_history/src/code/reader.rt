@@ -1,6 +1,6 @@
 //! Entries made of their numbers.
 ghost use Rattle.std.specs.Prelude.{◌≡◌, ℕ, List, IfOk, OnOk};
-ghost use Rattle.cover_problem.specs.Answers.{Returns};
+ghost use Rattle.shared_words.specs.Answers.{Returns};
 ghost use Rattle.x_codes.specs.StateCode.{later, after_rest, path_rest, state_of, state_rest};
 ghost use Rattle.lab_history.specs.EntryCode.{worker_of, cut_of, cut_rest, retracted_read};
 ghost use Rattle.lab_history.specs.EntryCode.{grant_of, grant_rest, fault_of, fault_numbered, call_of, call_rest, call_with, call_rest_with};

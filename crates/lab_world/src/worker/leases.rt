@@ -1,6 +1,7 @@
 //! Workers are made where they lease a tile.
 ghost use Rattle.std.specs.Prelude.{◌≡◌, ◌≤◌, ◌<◌, length, Some, None, Err, IsErr, IfOk, IfErr, IfSome, OnOk, OnErr};
-ghost use Rattle.cover_problem.specs.Answers.{Returns};
+ghost use Rattle.shared_words.specs.Workers.{IsWorker};
+ghost use Rattle.shared_words.specs.Answers.{Returns};
 ghost use Rattle.lab_book.specs.Tiling.{tile_at, IsTiling};
 ghost use Rattle.lab_book.specs.Book.{book_step, first_waiting};
 ghost use Rattle.lab_book.specs.Calls.{Refuses, Leases};
@@ -54,7 +55,7 @@ fn wanted_place(book: &Book<'_>, wanted: Wanted, id: u64) -> Option<usize>
 
 /// Leases the tile with an id from the book.
 fn asked<'p>(book: &mut Book<'p>, w: u8, id: u64, wanted: Wanted) -> Result<Leased<'p>, BookFault>
-    requires { w ≤ 31 }
+    requires { IsWorker w }
     ensures made { IfOk result (Leases book.old book.new w (lease_call wanted id)) }
     ensures refused { IfErr result (Refuses book.old book.new w (lease_call wanted id)) }
 {
@@ -140,7 +141,7 @@ impl<'p, T: Table> Worker<'p, T> {
         id: u64,
         wanted: Wanted,
     ) -> Result<Worker<'p, T>, BookFault>
-        requires { w ≤ 31 }
+        requires { IsWorker w }
         ensures book { OnOk result (book.new ≡ book_step book.old w (lease_call wanted id)) }
         ensures worker { IfOk result (λ x. Some x ≡ leased_by book.old w (lease_call wanted id)) }
         ensures holds { IfOk result (λ x. HoldsTile book.new x) }
@@ -172,7 +173,7 @@ impl<'p, T: Table> Worker<'p, T> {
         w: u8,
         id: u64,
     ) -> Result<Worker<'p, T>, BookFault>
-        requires { w ≤ 31 }
+        requires { IsWorker w }
         ensures book { OnOk result (book.new ≡ book_step book.old w (calls.Lease id)) }
         ensures worker { IfOk result (λ x. Some x ≡ leased_by book.old w (calls.Lease id)) }
         ensures holds { IfOk result (λ x. HoldsTile book.new x) }
@@ -188,7 +189,7 @@ impl<'p, T: Table> Worker<'p, T> {
         w: u8,
         id: u64,
     ) -> Result<Worker<'p, T>, BookFault>
-        requires { w ≤ 31 }
+        requires { IsWorker w }
         ensures book { OnOk result (book.new ≡ book_step book.old w (calls.TakeHeld id)) }
         ensures worker { IfOk result (λ x. Some x ≡ leased_by book.old w (calls.TakeHeld id)) }
         ensures holds { IfOk result (λ x. HoldsTile book.new x) }
@@ -203,7 +204,7 @@ impl<'p, T: Table> Worker<'p, T> {
         book: &mut Book<'p>,
         w: u8,
     ) -> Result<Option<Worker<'p, T>>, AllocError>
-        requires { w ≤ 31 }
+        requires { IsWorker w }
         ensures book { OnOk result (book.new ≡ book_step book.old w calls.LeaseAny) }
         ensures worker { IfOk result (λ x. x ≡ leased_by book.old w calls.LeaseAny) }
         ensures holds { IfOk result (λ x. IfSome x (HoldsTile book.new)) }
@@ -227,7 +228,7 @@ impl<'p, T: Table> Worker<'p, T> {
         w: u8,
         runner: Runner<'p, T>,
     ) -> Result<Worker<'p, T>, AllocError>
-        requires small { w ≤ 31 }
+        requires small { IsWorker w }
         requires first { StandsAtFirst book.old runner }
         ensures book { OnOk result (book.new ≡ book_step book.old w calls.LeaseAny) }
         ensures worker { IfOk result (λ x. Some x ≡ leased_by book.old w calls.LeaseAny) }

@@ -1,6 +1,6 @@
 //! Workers split their tiles.
 ghost use Rattle.std.specs.Prelude.{◌≡◌, true, IfOk, IfErr, OnOk, OnErr};
-ghost use Rattle.cover_problem.specs.Lists.{has};
+ghost use Rattle.shared_words.specs.Lists.{has};
 ghost use Rattle.x_branches.specs.Refusals.{untried_in};
 ghost use Rattle.lab_history.specs.declared.entry.Reply.TheVariants as replies;
 ghost use Rattle.lab_world.specs.Worker.{HoldsTile, RefusesSplit, book_after_split, shortened_at, AnswersSplit};

@@ -1,7 +1,7 @@
 //! The unposted stretch of a runner: it is taken out to be posted, joined again, or let go where another branch begins.
 ghost use Rattle.std.specs.Prelude.{◌≡◌, ◌<◌, ◌≤◌, ◌-◌, ◌↔◌, ◌++◌, [], length, take, drop, replicate, slice_index, IsTrue, IfOk, IfErr};
 ghost use Rattle.std.specs.Prelude.{OnOk, OnErr};
-ghost use Rattle.cover_problem.specs.Answers.{Returns};
+ghost use Rattle.shared_words.specs.Answers.{Returns};
 ghost use Rattle.x_steps.specs.StateView.{state_value};
 ghost use Rattle.x_steps.specs.Levels.{without_last_zeros};
 ghost use Rattle.x_steps.specs.Steps.{Fits};

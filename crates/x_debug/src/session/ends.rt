@@ -1,6 +1,6 @@
 //! The branch that is open is given up.
 ghost use Rattle.std.specs.Prelude.{◌≡◌, [], true, is_some};
-ghost use Rattle.cover_problem.specs.Answers.{Returns, Adds};
+ghost use Rattle.shared_words.specs.Answers.{Returns, Adds};
 ghost use Rattle.x_texts.specs.Breaks.{are_breaks};
 ghost use Rattle.x_debug.specs.Commands.{saved_or, park_deed, close_deed, save_deed, EndsBy, EndsShort, TellsDeed, DoesDeed, FailsDeed};
 

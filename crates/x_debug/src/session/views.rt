@@ -1,5 +1,5 @@
 //! What is shown of a session.
-ghost use Rattle.x_texts.specs.Writes.{AddsLines};
+ghost use Rattle.text_lines.specs.Writes.{AddsLines};
 ghost use Rattle.x_debug.specs.Questions.{runner_of, branch_shown, branch_untried, lines_asked};
 
 use crate::session::Session;

@@ -7,7 +7,7 @@ ghost use Rattle.cover_problem.specs.Reading.{problem_of};
 ghost use Rattle.cover_problem.specs.Grammar.{written};
 ghost use Rattle.x_snapshot.specs.Reader as spec;
 ghost use Rattle.x_snapshot.specs.Reader.{in_version, Reads};
-ghost use Rattle.cover_problem.specs.Answers.{Returns};
+ghost use Rattle.shared_words.specs.Answers.{Returns};
 
 use crate::fault::SnapshotFault;
 use crate::reader::Found;

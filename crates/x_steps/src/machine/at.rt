@@ -1,10 +1,10 @@
 //! A machine at a given state: its path is walked down, choice by choice, each tested before it is taken.
 ghost use Rattle.std.specs.Prelude.{◌≡◌, ◌<◌, ◌≤◌, ◌&&◌, ◌↔◌, [], All, true, false, length, IsTrue};
 ghost use Rattle.std.specs.Prelude.{None, IfSome, OnSome, IfErr, OnOk};
-ghost use Rattle.cover_problem.specs.Answers.{Returns};
-ghost use Rattle.cover_problem.specs.Lists.{has};
+ghost use Rattle.shared_words.specs.Answers.{Returns};
+ghost use Rattle.shared_words.specs.Lists.{has};
 ghost use Rattle.cover_problem.specs.Path.{IsValid};
-ghost use Rattle.x_steps.specs.Answers.{IfRefused};
+ghost use Rattle.cover_problem.specs.Answers.{IfRefused};
 ghost use Rattle.x_steps.specs.StateView.{state_value, IsState};
 ghost use Rattle.x_steps.specs.Steps.{IsOpen};
 ghost use Rattle.x_steps.specs.Machine.{IsAt, covered_items, item_to_choose};

@@ -1,7 +1,7 @@
 //! The machine, backwards: each method goes from one step of the table to the step before it.
 ghost use Rattle.std.specs.Prelude.{◌≡◌, ◌≢◌, ◌↔◌, ℕ, OnOk, IsErr};
-ghost use Rattle.cover_problem.specs.Lists.{below, last_of};
-ghost use Rattle.x_steps.specs.Answers.{RefusedUnchanged};
+ghost use Rattle.shared_words.specs.Lists.{below, last_of};
+ghost use Rattle.shared_words.specs.Answers.{RefusedUnchanged};
 ghost use Rattle.x_steps.specs.Steps.{remaining_after};
 ghost use Rattle.x_steps.specs.Before.{came_from};
 ghost use Rattle.x_steps.specs.Steps.{IsBefore};

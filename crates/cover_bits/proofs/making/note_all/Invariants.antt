@@ -1,5 +1,5 @@
 use Rattle.std.proofs.Common.{◌≡◌, ℕ, ◌<◌, ◌+◌, ◌*◌, ◌&&◌, nat_lt, length}
-use Rattle.cover_problem.specs.Lists.{has}
+use Rattle.shared_words.specs.Lists.{has}
 use Rattle.cover_problem.specs.Problem.{option_at}
 use Rattle.cover_bits.specs.Parts.{in_row}
 use Rattle.cover_bits.proofs.making.note_all.Given as goal

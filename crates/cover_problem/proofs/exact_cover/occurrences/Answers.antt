@@ -1,5 +1,5 @@
 use Rattle.std.proofs.Common.{ℕ, Bool, true, false, ◌≡◌, cond, ap, ◌∙◌}
-use Rattle.cover_problem.specs.Lists.{has}
+use Rattle.shared_words.specs.Lists.{has}
 use Rattle.cover_problem.specs.Problem.{option_at}
 use Rattle.cover_problem.proofs.CoverTestLemmas.{count_more}
 use Rattle.cover_problem.proofs.exact_cover.occurrences.Goals as goal

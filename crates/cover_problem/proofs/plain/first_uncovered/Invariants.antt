@@ -1,5 +1,5 @@
 use Rattle.std.proofs.Common.{◌≡◌, ◌-◌, ◌+◌, find, slice_index_or, ◌==◌}
-use Rattle.cover_problem.specs.Lists.{numbers}
+use Rattle.shared_words.specs.Lists.{numbers}
 use Rattle.cover_problem.specs.declared.plain.TheConstants.{NEVER}
 use Rattle.cover_problem.proofs.plain.first_uncovered.Given as goal
 

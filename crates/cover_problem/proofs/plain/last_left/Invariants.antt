@@ -1,5 +1,5 @@
 use Rattle.std.proofs.Common.{◌≡◌, ◌<◌, ◌≤◌, length, filter, All}
-use Rattle.cover_problem.specs.Lists.{last_of}
+use Rattle.shared_words.specs.Lists.{last_of}
 use Rattle.cover_problem.specs.Plain.{is_in}
 use Rattle.cover_problem.proofs.plain.last_left.Given as goal
 

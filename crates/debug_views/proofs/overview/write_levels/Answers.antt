@@ -1,7 +1,7 @@
 use Rattle.std.proofs.Common.{◌≡◌, ◌+◌, ◌<◌, ◌++◌, ℕ, List, length, sym, ap, ap₂, ◌∙◌, append_assoc, arith}
 use Rattle.std.proofs.lemmas.List.{length-map}
 use Rattle.text_lines.specs.Writing.{text_of}
-use Rattle.cover_problem.specs.Lists.{numbers}
+use Rattle.shared_words.specs.Lists.{numbers}
 use Rattle.cover_problem.proofs.NumberLemmas.{length-numbers}
 use Rattle.x_branches.specs.Refusals.{untried_in}
 use Rattle.debug_views.proofs.LineLemmas.{levels_to, levels_more, level_listed}

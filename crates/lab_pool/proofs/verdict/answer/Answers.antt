@@ -1,7 +1,7 @@
 use Rattle.std.proofs.Common.{Result, Ok, Err, List, inl, inr, sym, drop, subst, ◌∙◌, arith}
 use Rattle.std.proofs.lemmas.Bool.{false≢true}
 use Rattle.cover_problem.specs.declared.fault.Refused.{Refused}
-use Rattle.x_steps.specs.Answers.{IfRefused}
+use Rattle.cover_problem.specs.Answers.{IfRefused}
 use Rattle.lab_history.specs.declared.entry.Entry.{Entry}
 use Rattle.lab_book_laws.specs.Searched.{ArePoolCalls}
 use Rattle.lab_pool.proofs.verdict.answer.Goals.{then-leased-gt0-via-then-leased-gt0, then-leased-gt0-via-else-leased-gt0+then-not-are_pool_calls}

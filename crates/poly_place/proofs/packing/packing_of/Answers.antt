@@ -1,5 +1,5 @@
 use Rattle.std.proofs.Common.{◌≡◌, ℕ, List, map, ap₂, sym, subst, ◌∙◌}
-use Rattle.cover_problem.specs.Lists.{has}
+use Rattle.shared_words.specs.Lists.{has}
 use Rattle.poly_place.specs.Packings.{ChoiceValue, IsPacking, SetStandsFor}
 use Rattle.poly_place.specs.Chosen.{AreInPieceOrder, ComeByPiece, choice_numbered, numbering, chosen_by, is_among}
 use Rattle.poly_place.proofs.ChosenLemmas.{numbered, cover_stands, cover_packs}

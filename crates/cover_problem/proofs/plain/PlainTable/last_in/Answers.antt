@@ -1,5 +1,5 @@
 use Rattle.std.proofs.Common.{◌∙◌, ap, filter}
-use Rattle.cover_problem.specs.Lists.{last_of}
+use Rattle.shared_words.specs.Lists.{last_of}
 use Rattle.cover_problem.proofs.TableLemmas.{was_is, items_fit}
 use Rattle.cover_problem.proofs.plain.PlainTable.last_in.Goals as goal
 

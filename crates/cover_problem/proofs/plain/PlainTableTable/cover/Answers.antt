@@ -1,5 +1,5 @@
 use Rattle.std.proofs.Common.{◌∙◌, ap, length, vec_capacity, arith}
-use Rattle.cover_problem.specs.Lists.{has}
+use Rattle.shared_words.specs.Lists.{has}
 use Rattle.cover_problem.proofs.TableLemmas.{plain_at, plain_covered, times_long, covered_short}
 use Rattle.cover_problem.proofs.CoveredLemmas.{covered_room}
 use Rattle.cover_problem.proofs.plain.PlainTableTable.cover.Goals as goal

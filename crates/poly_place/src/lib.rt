@@ -23,11 +23,13 @@ mod set;
 mod symbol;
 mod table;
 
-pub use alike::{Group, classes};
+pub use alike::{Group, carriers, classes};
 pub use choice::Choice;
 pub use compiled::{Compiled, compile};
 pub use fault::PlaceFault;
+pub use items::cell_places;
 pub use layer::layers;
 pub use listing::write_packings;
 pub use packing::{Packing, packing_of};
 pub use placement::{placements, placements_by};
+pub use table::bit_index;

@@ -38,6 +38,10 @@ state_at m n = after m.problem n m.state
 abbrev pub stop_from : Option ℕ → MachineValue → List ℕ → StateValue
 stop_from most m end = state_at m (steps_taken most (steps_between m.problem m.state (end_at end)))
 
+-- a search that has come to `visited` visits stops at s: after as many visits as were asked for, or where a stretch stops
+abbrev pub StopsAt : Option ℕ → Option ℕ → MachineValue → List ℕ → ℕ → StateValue → Type 0
+StopsAt first most m end visited s = (first ≡ Some visited) ⊎ (s ≡ stop_from most m end)
+
 -- the report of the stretch from a machine's position up to t
 abbrev pub report_from : Bool → MachineValue → StateValue → ReportValue
 report_from keeps m t = stretch_report keeps m.problem m.state t

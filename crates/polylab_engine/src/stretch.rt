@@ -5,7 +5,7 @@ ghost use Rattle.x_steps.specs.StateView.{state_value};
 ghost use Rattle.x_steps.specs.Steps.{Fits};
 ghost use Rattle.x_steps.specs.Walk.{IsAtCut, IsWalkOf, CountsHaveRoom};
 ghost use Rattle.x_branches.specs.RunOrder.{ComesBefore};
-ghost use Rattle.polylab_engine.specs.Stretch.{end_at, stop_from, report_from, IsAtEnd, state_at};
+ghost use Rattle.polylab_engine.specs.Stretch.{end_at, report_from, IsAtEnd, StopsAt, state_at};
 ghost use Rattle.polylab_engine.specs.Searcher.{stands};
 
 use crate::report::Report;
@@ -103,7 +103,8 @@ pub fn search_on<V: Visits>(
 ) -> Result<(Report<V>, State), AllocError>
     requires end { Fits (stands searcher).problem (end_at end.now) }
     requires not_past { ComesBefore (stands searcher).problem (end_at end.now) (stands searcher).state → ⊥ }
-    ensures stop { IfOk result (λ r. (first ≡ Some r.0.visited) ⊎ (state_value r.1 ≡ stop_from most (stands searcher.entry) end.now)) }
+    ensures stop { IfOk result (λ r.
+        StopsAt first most (stands searcher.entry) end.now r.0.visited (state_value r.1)) }
     ensures first { IfOk result (λ r. ForSome first (λ n. r.0.visited ≤ n)) }
     ensures fits { IfOk result (λ r. Fits (stands searcher.entry).problem (state_value r.1)) }
     ensures report { IfOk result (λ r. r.0 ≡ report_from keeps (stands searcher.entry) (state_value r.1)) }

@@ -21,7 +21,8 @@ Every job reads standard input and writes standard output.
 Exit statuses:
   0  done
   2  the command line was refused
-  3  the input was refused; one line on standard error tells why
+  3  the input was refused; one line on standard error says why, and
+     `polylab explain FILE` says what to do about it
   4  there was not enough memory, or workers did not finish their search
   5  reading or writing failed";
 

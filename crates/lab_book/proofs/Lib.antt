@@ -1,4 +1,5 @@
 pub mod TileLemmas
+pub mod MarkLemmas
 pub mod TilingLemmas
 pub mod BookLemmas
 pub mod CallLemmas

@@ -1,9 +1,9 @@
 -- Marks of tiles, the test of states, and what posting a stretch keeps.
 use Rattle.std.proofs.Common.{◌≡◌, ℕ, zero, suc, ◌-◌, ◌<◌, ◌≤◌, ◌==◌, Bool, true, false, ◌&&◌, Some, None, List, [], ◌∷◌, ◌++◌, length}
-use Rattle.std.proofs.Common.{take, get_or, slice_get, refl, sym, ap, ◌∙◌, subst, arith, eq-eqb, eqb-true, bytes_eq, ◌+◌, ◌⊎◌, inl, inr}
+use Rattle.std.proofs.Common.{take, get_or, slice_get, refl, sym, ap, ◌∙◌, subst, arith, eq-eqb, eqb-true, bytes_eq, ◌+◌}
 use Rattle.std.specs.Prelude.{◌↔◌, IsTrue, is_some, if◌then◌else◌}
 use Rattle.std.specs.Cmp.Lexicographic.{bytes_decides}
-use Rattle.std.proofs.lemmas.Bool.{and_parts, and_from, false≢true, false_from_ne_true, cases_lt}
+use Rattle.std.proofs.lemmas.Bool.{and_parts, and_from, false≢true, false_from_ne_true}
 use Rattle.std.proofs.lemmas.List.{take_more}
 use Rattle.std.proofs.lemmas.Option.{slice_get_within, get_or_from_slice_get}
 use Rattle.cover_problem.specs.Problem.{ProblemValue}
@@ -201,7 +201,8 @@ led_rank p s (x ∷ xs) j f =
     let a = end_after p s x.to j.2 in
     let b = led_rank p x.to xs j.3 (end_fits p s x.to j.2) in omega arith
 
-part_fits : (p : ProblemValue) (s : StateValue) (xs : List StretchValue) (n : ℕ) → Join p s xs → Fits p s → Fits p (led_to s (take n xs))
+pub part_fits : (p : ProblemValue) (s : StateValue) (xs : List StretchValue) (n : ℕ) → Join p s xs → Fits p s
+    → Fits p (led_to s (take n xs))
 part_fits p s [] zero j f = f
 part_fits p s [] (suc n) j f = f
 part_fits p s (x ∷ xs) zero j f = f
@@ -253,22 +254,12 @@ mark_missed s m [] each = rw (each 0 (omega arith)) refl
 mark_missed s m (x ∷ xs) each =
     rw (each 0 (omega arith), mark_missed s x.to xs (λ k b. each (suc k) (omega arith))) refl
 
--- where the stretches up to a place lead
 -- the stretch at a place
 pub at_place : (xs : List StretchValue) (i : ℕ) (x : StretchValue) → slice_get xs i ≡ Some x → (i < length xs) × (x ≡ get_or xs i x)
 at_place xs i x e = (slice_get_within xs i x e, sym (get_or_from_slice_get xs i x x e))
 
+-- where the stretches up to a place lead
 pub led_more : (s : StateValue) (xs : List StretchValue) (i : ℕ) (x : StretchValue) → i < length xs → x ≡ get_or xs i x
     → led_to s (take (i + 1) xs) ≡ x.to
 led_more s xs i x l e = ap (led_to s) (take_more xs i x l) ∙ mark_push s (take i xs) (get_or xs i x)
     ∙ ap (λ (y : StretchValue). y.to) (sym e)
-
--- one mark more that isn't the state
-pub missed_more : (s m : StateValue) (xs : List StretchValue) (i : ℕ) (x : StretchValue) → i < length xs → x ≡ get_or xs i x
-    → same_state s x.to ≡ false → ((k : ℕ) → k ≤ i → same_state s (led_to m (take k xs)) ≡ false) → (k : ℕ) → k ≤ i + 1
-    → same_state s (led_to m (take k xs)) ≡ false
-missed_more s m xs i x l e h before k b = step (cases_lt i k)
-  where
-    step : (i < k) ⊎ (k ≤ i) → same_state s (led_to m (take k xs)) ≡ false
-    step (inl o) = let n : k ≡ i + 1 = omega arith in rw (n, led_more m xs i x l e) h
-    step (inr o) = before k o

@@ -1,11 +1,11 @@
 -- A tile: a branch of the run, how it stands, and what was posted of it. First how one stands (`is_waiting`, `is_held`, `is_leased`,
 -- `is_closed`, `is_free`, `is_lease`, and what becomes of that: `freed_status`, `asked_status`), then `TileValue` and its states: its marks
 -- are its first mark and the ends of its stretches, to which these lead (`led_to`); the last of them is its mark, `mark_of`; `tile_end`
--- ends it. Last what is true of it: `KeepsTile`, `Join`, `Stands`, `IsTile`.
+-- ends it. Last what is true of it: `KeepsTile`, `Join`, `EqualMarksMeet`, `Stands`, `IsTile`.
 --
 -- Example: a tile of the small problem's whole run has the first mark X1; once the two steps to X3 are posted its mark is X3, and its end
 -- is Done. One that worker 1 leased by the entry 7 isn't leased by the entry 3. proofs/BookExamples.antt computes it.
-use Rattle.std.specs.Prelude.{ℕ, ◌≡◌, ◌==◌, ◌&&◌, Bool, true, false, List, [], ◌∷◌, if◌then◌else◌}
+use Rattle.std.specs.Prelude.{ℕ, ◌≡◌, ◌≤◌, ◌==◌, ◌&&◌, Bool, true, false, List, [], ◌∷◌, length, take, if◌then◌else◌}
 use Rattle.cover_problem.specs.Problem.{ProblemValue}
 use Rattle.x_steps.specs.StateValue.{StateValue}
 use Rattle.x_branches.specs.declared.branch.Branch.{Branch}
@@ -87,6 +87,11 @@ pub record KeepsTile (branch : Branch) (first : StateValue) (stretches : List St
 abbrev pub Join : ProblemValue → StateValue → List StretchValue → Type 0
 Join p s [] = Unit {0}
 Join p s (x ∷ xs) = (x.problem ≡ p) × (x.from ≡ s) × IsStretch p s x.to × Join p x.to xs
+
+-- marks that are equal stand beside each other: one between two that are equal is equal to them
+abbrev pub EqualMarksMeet : StateValue → List StretchValue → Type 0
+EqualMarksMeet s xs = (i j k : ℕ) → i ≤ j → j ≤ k → k ≤ length xs → led_to s (take i xs) ≡ led_to s (take k xs)
+    → led_to s (take j xs) ≡ led_to s (take k xs)
 
 -- a waiting tile isn't asked to stop, a held one is, and a closed one is posted up to its end
 abbrev pub Stands : Status → TileValue → Type 0

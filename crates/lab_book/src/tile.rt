@@ -4,7 +4,7 @@ ghost use Rattle.shared_words.specs.Answers.{Returns};
 ghost use Rattle.x_steps.specs.StateView.{state_value};
 ghost use Rattle.x_branches.specs.Branch.{end_of};
 ghost use Rattle.x_branches.specs.Cut.{cut_state};
-ghost use Rattle.lab_book.specs.Tile.{led_to, mark_of, tile_end};
+ghost use Rattle.lab_book.specs.Tile.{led_to, mark_of, tile_end, EqualMarksMeet};
 ghost use Rattle.lab_book.specs.Posted.{stretch_visits};
 ghost use Rattle.lab_book.specs.Book.{whole_tile, posted_tile, retracted_tile, last_stretch, kept_tile};
 ghost use Rattle.lab_book.specs.Calls.{LeadTo};
@@ -104,21 +104,24 @@ fn mark_place(
     first: &State,
     stretches: &KeptStretches<'_>,
 ) -> Result<Option<usize>, AllocError>
+    requires { EqualMarksMeet (state_value first.now) stretches.now }
     ensures place { IfOk result (LeadTo state.now (state_value first.now) stretches.now) }
     ensures within { IfOk result (λ place. IfSome place (λ n. n ≤ length stretches.now)) }
 {
-    // A stretch may have no step, so marks can be equal: the first of them is meant.
-    if state.same(first) {
-        return Ok(Some(0));
-    }
-    for place in 0..stretches.len() {
+    let mut found = None;
+    // From the end: who goes back a few stretches of many waits for these alone.
+    'looking: for place in (0..stretches.len()).rev() {
         // A kept stretch is packed: its end is made again, and that takes memory.
         let mark = stretches.stretch(place).to(alloc)?;
         if state.same(&mark) {
-            return Ok(Some(place + 1));
+            // A stretch may have no step, so marks can be equal: the first of them is meant.
+            found = Some(place + 1);
+        } else if found.is_some() {
+            // Those that are equal stand beside each other, so it is none before.
+            return Ok(found);
         }
     }
-    Ok(None)
+    Ok(if state.same(first) { Some(0) } else { found })
 }
 
 impl<'p> Tile<'p> {
@@ -334,6 +337,7 @@ impl<'p> Tile<'p> {
 
     /// How many stretches come before the first of its marks that is this state.
     pub(crate) fn mark_place(&self, state: &State) -> Result<Option<usize>, AllocError>
+        requires { EqualMarksMeet self.now.first self.now.stretches }
         ensures place { IfOk result (LeadTo state.now self.now.first self.now.stretches) }
         ensures within { IfOk result (λ place. IfSome place (λ n. n ≤ length self.now.stretches)) }
     {

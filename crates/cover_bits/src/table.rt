@@ -1,7 +1,7 @@
 //! The table whose lists are bit sets of options.
 ghost use Rattle.std.specs.Prelude.{◌≡◌, ◌<◌, ◌≤◌, ◌+◌, ◌-◌, ◌*◌, ◌^◌, ◌&&◌, ◌||◌, ◌==◌, ◌↔◌, IsTrue, not, true, false, ℕ, List, [], ◌∷◌, ◌++◌, length, take, option_map, vec_capacity, Some};
 ghost use Rattle.std.specs.List.{position_or_len, before_first};
-ghost use Rattle.cover_problem.specs.Lists as nums;
+ghost use Rattle.cover_problem.specs.Lists as members;
 ghost use Rattle.cover_problem.specs.Lists.{are_distinct};
 ghost use Rattle.cover_problem.specs.Covering.{list_of};
 ghost use Rattle.cover_bits.specs.Parts.{words_for, in_row};
@@ -124,7 +124,7 @@ fn is_active(active: &[u64], primary: u32, item: u32) -> bool
 fn place_among(covered: &[u32], active: &[u64], primary: u32, item: u32) -> usize
     requires some { 0 < item }
     requires room { primary ≤ 64 * length active.now }
-    requires uncovered { item ≤ primary → in_row active.now (item - 1) ≡ true → nums.has covered.now item ≡ false }
+    requires uncovered { item ≤ primary → in_row active.now (item - 1) ≡ true → members.has covered.now item ≡ false }
     ensures { result ≡ position_or_len (λ x. x == item) covered.now }
 {
     if is_active(active, primary, item) {
@@ -139,7 +139,7 @@ fn time_of(covered: &[u32], active: &[u64], primary: u32, item: u32) -> usize
     requires distinct { are_distinct covered.now ≡ true }
     requires some { 0 < item }
     requires room { primary ≤ 64 * length active.now }
-    requires uncovered { item ≤ primary → in_row active.now (item - 1) ≡ true → nums.has covered.now item ≡ false }
+    requires uncovered { item ≤ primary → in_row active.now (item - 1) ≡ true → members.has covered.now item ≡ false }
     ensures { result ≡ position_or_len (λ x. x == item) covered.now }
 {
     match covered.split_last() {
@@ -210,7 +210,7 @@ impl BitTable {
             (words_for (length self.now.problem.options)) left.now gone.now }
         requires some { 0 < item }
         requires within { item ≤ length self.now.problem.names }
-        requires uncovered { nums.has self.now.covered item ≡ false }
+        requires uncovered { members.has self.now.covered item ≡ false }
         ensures { result ≡ length (list_of self.now.problem self.now.covered item) }
     {
         self.list_in(left, gone, item).count()
@@ -224,7 +224,7 @@ impl BitTable {
     fn put(&mut self, item: u32)
         requires some { 0 < item }
         requires within { item ≤ length self.old.problem.names }
-        requires uncovered { nums.has self.old.covered item ≡ false }
+        requires uncovered { members.has self.old.covered item ≡ false }
         ensures same_problem { self.new.problem ≡ self.old.problem }
         ensures covered { self.new.covered ≡ self.old.covered ++ item ∷ [] }
     {

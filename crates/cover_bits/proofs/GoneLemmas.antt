@@ -1,5 +1,6 @@
 -- A list without the options that are gone: its first and its last one, and how many there are.
-use Rattle.std.proofs.Common.{◌≡◌, ℕ, suc, ◌+◌, ◌-◌, ◌*◌, ◌<◌, ◌≤◌, ◌⊎◌, nat_lt, Bool, true, false, not, ◌&&◌, List, [], ◌∷◌, length, filter, refl, sym, ap, ◌∙◌, inl, inr, arith, All}
+use Rattle.std.proofs.Common.{◌≡◌, ℕ, suc, ◌+◌, ◌-◌, ◌*◌, ◌<◌, ◌≤◌, ◌⊎◌, nat_lt, Bool, true, false, not, ◌&&◌, List, [], ◌∷◌, length, filter, refl, sym, ap, ◌∙◌, inl, inr, arith, le_refl, None, Some, Option, All}
+use Rattle.std.specs.Prelude.{IfSome}
 use Rattle.std.proofs.lemmas.Bool.{cases_lt, cases_eq, cases_order, lt-ltb, le-ltb, and_parts, and_from, and_left, and_right, both_ways, false_from_ne_true}
 use Rattle.std.proofs.lemmas.List.Elements.{All-from_get_or}
 use Rattle.shared_words.specs.Lists.{has, RisesFrom}
@@ -7,7 +8,7 @@ use Rattle.cover_problem.proofs.MemberLemmas.{has_here, has_later, has_cases}
 use Rattle.cover_problem.proofs.NumberLemmas.{rises_member}
 use Rattle.cover_bits.specs.declared.lists.ItemList.{ItemList}
 use Rattle.cover_bits.specs.Parts.{in_parts, in_row, in_both, IsFirstFrom, NoneFrom, IsLastBelow, NoneBelow}
-use Rattle.cover_bits.specs.Bits.{IsReadable, in_list, IsListOf}
+use Rattle.cover_bits.specs.Bits.{IsReadable, in_columns, in_list, IsListOf}
 use Rattle.cover_bits.proofs.PartLemmas.{placed_in, placed_at}
 
 -- *the first and the last*
@@ -72,6 +73,23 @@ module _ (both gone : ℕ → Bool) where
         by : (j < end) ⊎ (end ≤ j) → (both j && not (gone j)) ≡ false
         by (inl m) = and_left (both j) (not (gone j)) (none j m)
         by (inr m) = after j m a
+
+-- where no item is gone, all are kept
+no_column : (words : ℕ) (columns gone : List ℕ) → length gone ≡ 0 → (k : ℕ) → in_columns words columns gone k ≡ false
+no_column words columns [] e k = refl
+no_column words columns (i ∷ gone) e k = absurd (omega arith)
+
+module _ (list : ItemList) where
+  pub first_all : length list.gone.now ≡ 0 → (start : ℕ) (found : Option ℕ)
+      → IfSome found (λ k. IsFirstFrom (in_both list.parts.now list.column.now) start k) → IfSome found (λ k. IsFirstFrom (in_list list) start k)
+  first_all e start None h = tt
+  first_all e start (Some k) h =
+      first_kept (in_both list.parts.now list.column.now) (in_columns (length list.column.now) list.columns.now list.gone.now) start start (le_refl start) (λ j a b. absurd (omega arith)) k h
+      (no_column (length list.column.now) list.columns.now list.gone.now e k)
+
+  pub none_all : (start : ℕ) → NoneFrom (in_both list.parts.now list.column.now) start → NoneFrom (in_list list) start
+  none_all start none =
+      first_none (in_both list.parts.now list.column.now) (in_columns (length list.column.now) list.columns.now list.gone.now) start start (le_refl start) (λ j a b. absurd (omega arith)) none
 
 -- *within the column*
 

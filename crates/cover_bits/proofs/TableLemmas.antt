@@ -1,7 +1,7 @@
 -- What a table of bit sets keeps, and the list of an item that it tells.
-use Rattle.std.proofs.Common.{◌≡◌, ℕ, zero, suc, ◌+◌, ◌-◌, ◌*◌, ◌/◌, ◌%◌, ◌<◌, ◌≤◌, ◌⊎◌, ◌==◌, Bool, true, false, not, ◌&&◌, ◌||◌, List, [], ◌∷◌, ◌++◌, length, get_or, take, drop, set, refl, sym, ap, ap₂, subst, ◌∙◌, inl, inr, arith, length-take-le, length-drop, All}
+use Rattle.std.proofs.Common.{◌≡◌, nat_lt, ℕ, zero, suc, ◌+◌, ◌-◌, ◌*◌, ◌/◌, ◌%◌, ◌<◌, ◌≤◌, ◌⊎◌, ◌==◌, Bool, true, false, not, ◌&&◌, ◌||◌, List, [], ◌∷◌, ◌++◌, length, get_or, take, drop, set, refl, sym, ap, ap₂, subst, ◌∙◌, inl, inr, arith, length-take-le, length-drop, All}
 use Rattle.std.specs.List.{before_first, position_or_len, list_any, list_all}
-use Rattle.std.proofs.lemmas.Bool.{cases_lt, lt-ltb, le-ltb, and_left, and_right, and_parts, both_ways, false_from_ne_true}
+use Rattle.std.proofs.lemmas.Bool.{cases_lt, cases_eq, eq-eqb, ne_eqb, lt-ltb, le-ltb, and_left, and_right, and_parts, both_ways, false_from_ne_true}
 use Rattle.std.proofs.lemmas.List.{get_or-take, get_or-drop, get_or_past}
 use Rattle.std.proofs.lemmas.List.Sums.{prefix_len-le-length}
 use Rattle.std.specs.Prelude.{Option, None, option_map, IfSome}
@@ -76,6 +76,13 @@ module _ {p : ProblemValue} {options primary words : ℕ} {columns : List ℕ} {
       let b = item_bounds (length p.names) i r.0 in let b0 = b.0 in let b1 = b.1 in
       let same : i - 1 + 1 ≡ i = omega arith in
       ap₂ (λ x y. x || y) (h.columns_are (i - 1) k (omega arith) l ∙ ap (has (option_at p (k + 1))) same) (in_columns_are items r.1 k l)
+
+  -- an active item isn't covered
+  pub active_free : (i : ℕ) → 0 < i → i ≤ p.primary → in_row active (i - 1) ≡ true → has c i ≡ false
+  active_free i a b t =
+      let e : i - 1 + 1 ≡ i = omega arith in
+      let r = and_parts (nat_lt (i - 1) p.primary) (not (has c (i - 1 + 1))) (sym (h.active_are (i - 1)) ∙ t) in
+      ap (has c) (sym e) ∙ false_from_ne_true (has c (i - 1 + 1)) (λ u. both_ways (not (has c (i - 1 + 1))) (ap not u) r.1)
 
   -- of so many covered items the last set, and those covered since
   pub left_then : (d : ℕ) → d ≤ length c → AreLeftBut p (take d c) words (set_at words parts counts (get_or bases d 0)) (drop (get_or bases d 0) (take d c))
@@ -244,6 +251,18 @@ last_place xs before x e d =
     let within : position_or_len (λ y. y == x) xs ≤ length xs = prefix_len-le-length (λ y. not (y == x)) xs in
     let taken : length (take (position_or_len (λ y. y == x) xs) xs) ≡ position_or_len (λ y. y == x) xs = length-take-le (position_or_len (λ y. y == x) xs) xs within in
     sym long ∙ taken
+
+one_more : (a b : ℕ) → a ≡ b → suc a ≡ 1 + b
+one_more a b e = omega arith
+
+-- one that isn't covered has all of them before it
+pub time_past : (xs : List ℕ) (x : ℕ) → has xs x ≡ false → length xs ≡ position_or_len (λ y. y == x) xs
+time_past [] x e = refl
+time_past (y ∷ ys) x e = by (time_past ys x) (cases_eq y x)
+  where
+    by : (has ys x ≡ false → length ys ≡ position_or_len (λ z. z == x) ys) → (y ≡ x) ⊎ (y ≡ x → ⊥) → length (y ∷ ys) ≡ position_or_len (λ z. z == x) (y ∷ ys)
+    by ih (inl q) = absurd (both_ways (has (y ∷ ys) x) e (ap (λ b. b || has ys x) (eq-eqb y x q)))
+    by ih (inr d) = rw (ne_eqb y x d) (one_more (length ys) (position_or_len (λ z. z == x) ys) (ih (sym (ap (λ b. b || has ys x) (ne_eqb y x d)) ∙ e)))
 
 pub time_within : (xs : List ℕ) (x : ℕ) → position_or_len (λ y. y == x) xs ≤ length xs
 time_within xs x = prefix_len-le-length (λ y. not (y == x)) xs

@@ -42,6 +42,22 @@ impl ItemList<'_> {
         ensures some { IfSome result (λ k. IsFirstFrom (in_list self.now) start k) }
         ensures none { result ≡ None → NoneFrom (in_list self.now) start }
     {
+        if self.gone.is_empty() {
+            return next_both(self.parts, self.column, start);
+        }
+        // A copy is handed on, as `count` does.
+        let list = *self;
+        list.first_kept(start)
+    }
+
+    /// The first option from one on, where options are gone.
+    #[cold]
+    #[inline(never)]
+    fn first_kept(&self, start: u32) -> Option<u32>
+        requires { IsReadable self.now }
+        ensures some { IfSome result (λ k. IsFirstFrom (in_list self.now) start k) }
+        ensures none { result ≡ None → NoneFrom (in_list self.now) start }
+    {
         let mut start = start;
         while let Some(option) = next_both(self.parts, self.column, start) {
             if !self.is_gone(option) {

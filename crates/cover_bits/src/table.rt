@@ -1,7 +1,8 @@
 //! The table whose lists are bit sets of options.
-ghost use Rattle.std.specs.Prelude.{◌≡◌, ◌<◌, ◌≤◌, ◌+◌, ◌-◌, ◌*◌, ◌^◌, ◌&&◌, ◌||◌, ◌==◌, not, true, false, ℕ, List, [], ◌∷◌, ◌++◌, length, take, option_map, vec_capacity, Some};
+ghost use Rattle.std.specs.Prelude.{◌≡◌, ◌<◌, ◌≤◌, ◌+◌, ◌-◌, ◌*◌, ◌^◌, ◌&&◌, ◌||◌, ◌==◌, ◌↔◌, IsTrue, not, true, false, ℕ, List, [], ◌∷◌, ◌++◌, length, take, option_map, vec_capacity, Some};
 ghost use Rattle.std.specs.List.{position_or_len, before_first};
-ghost use Rattle.shared_words.specs.Lists.{has, are_distinct};
+ghost use Rattle.shared_words.specs.Lists as members;
+ghost use Rattle.shared_words.specs.Lists.{are_distinct};
 ghost use Rattle.cover_problem.specs.Covering.{list_of};
 ghost use Rattle.cover_bits.specs.Parts.{words_for, in_row};
 ghost use Rattle.cover_bits.specs.Bits.{AreLeftBut, IsListOf};
@@ -9,7 +10,7 @@ ghost use Rattle.cover_bits.specs.Bits.{AreLeftBut, IsListOf};
 use crate::lists::ItemList;
 use crate::making::{add_below, empty_row, fill, note_all};
 use crate::passes::{row, set, write_sets};
-use crate::sets::{Part, add, first_in, remove, words_for};
+use crate::sets::{Part, add, first_in, has, remove, words_for};
 use crate::walk::{take_next, whole};
 use cover_problem::{Problem, Table, push_within};
 use std::alloc::{AllocError, Global};
@@ -107,15 +108,43 @@ fn place_of(items: &[u32], item: u32) -> usize
     items.iter().take_while(|x| **x != item).count()
 }
 
+/// Whether an item is active. A secondary item never is.
+#[inline(always)]
+fn is_active(active: &[u64], primary: u32, item: u32) -> bool
+    requires some { 0 < item }
+    requires room { primary ≤ 64 * length active.now }
+    ensures { IsTrue result ↔ ((item ≤ primary) × (in_row active.now (item - 1) ≡ true)) }
+{
+    item <= primary && has(active, (item - 1) as usize)
+}
+
+/// The place of an item in the list of covered items, or the list's length. What is active isn't covered, so the list is gone through
+/// for others alone.
+#[inline(always)]
+fn place_among(covered: &[u32], active: &[u64], primary: u32, item: u32) -> usize
+    requires some { 0 < item }
+    requires room { primary ≤ 64 * length active.now }
+    requires uncovered { item ≤ primary → in_row active.now (item - 1) ≡ true → members.has covered.now item ≡ false }
+    ensures { result ≡ position_or_len (λ x. x == item) covered.now }
+{
+    if is_active(active, primary, item) {
+        return covered.len();
+    }
+    place_of(covered, item)
+}
+
 /// How many items were covered before one. A search asks for the item that was covered last.
 #[inline(always)]
-fn time_of(covered: &[u32], item: u32) -> usize
-    requires { are_distinct covered.now ≡ true }
+fn time_of(covered: &[u32], active: &[u64], primary: u32, item: u32) -> usize
+    requires distinct { are_distinct covered.now ≡ true }
+    requires some { 0 < item }
+    requires room { primary ≤ 64 * length active.now }
+    requires uncovered { item ≤ primary → in_row active.now (item - 1) ≡ true → members.has covered.now item ≡ false }
     ensures { result ≡ position_or_len (λ x. x == item) covered.now }
 {
     match covered.split_last() {
         Some((last, before)) if *last == item => before.len(),
-        _ => place_of(covered, item),
+        _ => place_among(covered, active, primary, item),
     }
 }
 
@@ -158,7 +187,7 @@ impl BitTable {
         requires within { item ≤ length self.now.problem.names }
         ensures { IsListOf (list_of self.now.problem self.now.covered item) result }
     {
-        let (parts, gone) = self.left_at(time_of(&self.covered, item));
+        let (parts, gone) = self.left_at(time_of(&self.covered, &self.active, self.primary, item));
         self.list_in(parts, gone, item)
     }
 }
@@ -181,7 +210,7 @@ impl BitTable {
             (words_for (length self.now.problem.options)) left.now gone.now }
         requires some { 0 < item }
         requires within { item ≤ length self.now.problem.names }
-        requires uncovered { has self.now.covered item ≡ false }
+        requires uncovered { members.has self.now.covered item ≡ false }
         ensures { result ≡ length (list_of self.now.problem self.now.covered item) }
     {
         self.list_in(left, gone, item).count()
@@ -195,7 +224,7 @@ impl BitTable {
     fn put(&mut self, item: u32)
         requires some { 0 < item }
         requires within { item ≤ length self.old.problem.names }
-        requires uncovered { has self.old.covered item ≡ false }
+        requires uncovered { members.has self.old.covered item ≡ false }
         ensures same_problem { self.new.problem ≡ self.old.problem }
         ensures covered { self.new.covered ≡ self.old.covered ++ item ∷ [] }
     {

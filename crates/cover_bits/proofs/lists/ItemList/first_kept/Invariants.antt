@@ -1,6 +1,6 @@
 use Rattle.std.proofs.Common.{◌≡◌, ◌≤◌, ◌<◌, ◌*◌, ◌-◌, ℕ, false, length}
 use Rattle.cover_bits.specs.Bits.{in_list}
-use Rattle.cover_bits.proofs.lists.ItemList.first.Given as goal
+use Rattle.cover_bits.proofs.lists.ItemList.first_kept.Given as goal
 
 abbrev pub invariant-loop-option : goal.invariant-loop-option
 invariant-loop-option l = record {

@@ -3,14 +3,14 @@ that what it is given is what `solve` printed."""
 
 from array import array
 from collections import OrderedDict
-from itertools import islice
+from itertools import chain, islice
 
 from cells import least_corner, shifted, turned
 from frame import stop
 from numbering import Numbering, sum_of
 from packings import Packing
 
-# Of so many looks that came last the ways that are left are kept; those of others are looked for again.
+# Of this number of looks that came last the ways that are left are kept; those of others are found again.
 KEPT = 1000
 
 
@@ -63,7 +63,7 @@ class Copies:
         self.pieces = [piece for piece in puzzle.pieces if piece.need == "any"] if puzzle else []
         self.shapes = [sorted(turned(piece.cells, piece.mirror)) for piece in self.pieces]
         self.required = {*shifted(puzzle.required, least_corner(puzzle.region), (0, 0, 0))} if puzzle else set()
-        # For each look how often it came; and of those that came last what finds their next way.
+        # For each look of several ways how often it came; and of those that came last what finds their next way.
         self.looks, self.times, self.ways = Numbering(), array("I"), OrderedDict()
 
     def told(self, packing):
@@ -71,19 +71,34 @@ class Copies:
         if not self.pieces:
             return packing
         marks = packing.cells()
-        look = self.looks.number(sum_of(repr((packing.size, packing.marks)).encode()))
-        if look == len(self.times):
-            self.times.append(0)
-        ways = self.ways.pop(look, None) or islice(self.ways_to_lay(marks), self.times[look], None)
-        way = next(ways, None)
+        way = self.way(packing, marks)
         if way is None:
             stop("packing %d is none of this puzzle: its pieces that are used any number of times have other shapes" % packing.number)
-        self.times[look] += 1
-        self.ways[look] = ways
-        if len(self.ways) > KEPT:
-            self.ways.popitem(last=False)
         copies = {place: piece.name + str(at) for piece, laid in zip(self.pieces, way) for at, put in enumerate(laid, 1) for place in put}
         return Packing(packing.number, packing.size, [copies.get(place, mark) for place, mark in marks.items()])
+
+    def way(self, packing, marks):
+        """The next way to tell the copies of a packing apart, or None. Nothing is kept of a look that has one way only."""
+        key = sum_of(repr((packing.size, packing.marks)).encode())
+        ways = self.ways.pop(key, None)
+        if ways is None:
+            two = list(islice(made := self.ways_to_lay(marks), 2))
+            if len(two) < 2:
+                return two[0] if two else None
+            ways = islice(chain(two, made), self.times_of(key), None)
+        way = next(ways, None)
+        self.times[self.looks.number(key)] += 1
+        self.ways[key] = ways
+        if len(self.ways) > KEPT:
+            self.ways.popitem(last=False)
+        return way
+
+    def times_of(self, key):
+        """How often a look came."""
+        look = self.looks.number(key)
+        if look == len(self.times):
+            self.times.append(0)
+        return self.times[look]
 
     def ways_to_lay(self, marks):
         """Each way to tell the copies of a packing apart."""

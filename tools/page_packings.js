@@ -150,7 +150,7 @@ function drawPieces() {
 // What the packing is among those like it, in words.
 function sayClass() {
   const alike = DATA.classes ? DATA.packings.map((_, k) => k).filter(k => DATA.classes[k] === DATA.classes[packing]) : [];
-  get("alike").textContent = !DATA.classes ? "" : "Class " + (1 + DATA.classes[packing]) + " of " + firstOf.length + ": number " + (1 + alike.indexOf(packing)) +
+  get("alike").textContent = !DATA.classes ? DATA.note : "Class " + (1 + DATA.classes[packing]) + " of " + firstOf.length + ": number " + (1 + alike.indexOf(packing)) +
     " of the " + alike.length + " that symmetries of the region carry onto one another.";
   return alike;
 }

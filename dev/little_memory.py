@@ -1,5 +1,5 @@
 """The scripts that read packings take little memory for each, count right, and show somebody at a terminal how far they are. Called by
-dev/check_frame, with a folder. Plain Python, NOT PROVED; it trusts the system for how much memory a script took."""
+dev/check_frame, with a folder. Plain Python, NOT PROVED; it trusts the system for how much memory a script takes."""
 
 import contextlib
 import os
@@ -70,16 +70,28 @@ def write_sets(work, many):
     write(path, (["0" + "".join(name if number >> at & 1 else "_" for at, name in enumerate(names))] for number in range(many)))
 
 
+# Runs a script, and then writes how many bytes it had at most. (What the system says of a child that has ended counts its parent's memory too.)
+NOTING = """
+import atexit, runpy, sys
+folder, note, *sys.argv = sys.argv[1:]
+sys.path[0] = folder
+def write():
+    with open("/proc/self/status") as file, open(note, "w") as noted:
+        noted.write(next(line.split()[1] for line in file if line.startswith("VmHWM:")))
+atexit.register(write)
+runpy.run_path(sys.argv[0], run_name="__main__")
+"""
+
+
 def taken(script, path):
     """How many bytes a script takes at most while it reads a file, and the last line that it writes."""
     name, *words = script.split()
     words = [path + ".puzzle" if word == "PUZZLE" else word for word in words]
+    tools = os.path.join(TOP, "tools")
     with open(path + ".written", "wb") as file:
-        child = subprocess.Popen([os.path.join(TOP, "tools", name), *words, path], stdout=file)
-        _, status, used = os.wait4(child.pid, 0)
-    assert status == 0, script
-    with open(path + ".written", "rb") as file:
-        return 1024 * used.ru_maxrss, file.read().splitlines()[-1].decode("latin-1")
+        subprocess.run([sys.executable, "-B", "-c", NOTING, tools, path + ".noted", os.path.join(tools, name), *words, path], stdout=file, check=True)
+    with open(path + ".written", "rb") as file, open(path + ".noted", encoding="ascii") as noted:
+        return 1024 * int(noted.read()), file.read().splitlines()[-1].decode("latin-1")
 
 
 def each(script, work, few, many):

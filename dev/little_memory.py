@@ -10,12 +10,13 @@ import sys
 from tree import TOP
 
 LETTERS = "0123456789ABCDEFGHIJKLMNOPQRSTUVWXYZabcdefghijklmnopqrstuvwxyz"
-# The numbers of tilings by dominoes (Kasteleyn, 1961). Of 7 x 6 the rectangle's four symmetries leave 31,529, 41, 821 and 93 tilings as they are, so by
+DIGITS = "0123456789abcdefghijklmnopqrstuv"
+# The number of tilings of 7 x 6 by dominoes (Kasteleyn, 1961). The rectangle's four symmetries leave 31,529, 41, 821 and 93 of them as they are, so by
 # Burnside's lemma there are (31,529 + 41 + 821 + 93) / 4 classes.
-FEW, MANY = (6, 6), (7, 6)
-TILINGS, CLASSES = {FEW: 6728, MANY: 31529}, 8121
-# A hundredth of what a dict for each packing takes: at most this number of bytes may be taken for one packing more.
-MOST = 33
+WIDE, HIGH, TILINGS, CLASSES = 7, 6, 31529, 8121
+# A hundredth of what a dict for each packing takes: at most this number of bytes may be taken for one packing more. It is found of files with FEW
+# and MANY packings, so that what a script takes at its start doesn't count.
+MOST, FEW, MANY = 33, 1 << 14, 1 << 17
 
 
 def tilings(wide, high):
@@ -45,29 +46,38 @@ def write(path, packings):
     return number
 
 
-def write_tilings(work, size):
-    """Writes the tilings of a rectangle, and their puzzle: with a piece for each domino, with a corner that may stay empty, so that no symmetry is left,
-    and with two symbols in turn."""
-    wide, high = size
+def write_tilings(work):
+    """Writes the tilings of a rectangle, and their puzzle: with a piece for each domino, and with two symbols in turn."""
     in_turn = str.maketrans(LETTERS, ("AB" * len(LETTERS))[: len(LETTERS)])
-    names = LETTERS[: wide * high // 2]
-    for kind, text in (("copies", "copies %s 000 100\nbox %d %d 1\n"), ("apart", "copies %s 000 100\nbox %d %d 1\nmaybe cells 000\n"), ("turn", "any piece %s 000 100\nbox %d %d 1\n")):
-        path = os.path.join(work, "%s-%dx%d" % (kind, *size))
+    for kind, text in ("copies", "copies %s 000 100" % LETTERS[: WIDE * HIGH // 2]), ("turn", "any piece AB 000 100"):
+        path = os.path.join(work, kind)
         with open(path + ".puzzle", "w", encoding="ascii") as file:
-            file.write(text % ("AB" if kind == "turn" else names, *size))
-        packings = tilings(*size) if kind != "turn" else ([row.translate(in_turn) for row in rows] for rows in tilings(*size))
-        number = write(path, packings)
-        assert number == TILINGS[size], number
+            file.write("%s\nbox %d %d 1\n" % (text, WIDE, HIGH))
+        drawn = tilings(WIDE, HIGH)
+        number = write(path, drawn if kind == "copies" else ([row.translate(in_turn) for row in rows] for rows in drawn))
+        assert number == TILINGS, number
 
 
-def write_sets(work, many):
-    """Writes packings each of which has a set of pieces that no other has: a row in which the first cell is filled, and others may be."""
-    path = os.path.join(work, "sets-%d" % many)
-    names = LETTERS[1:17]
-    with open(path + ".puzzle", "w", encoding="ascii") as file:
-        file.write("piece 0 000\n%sbox 17 1 1\nmaybe cells %s\n" % ("".join("maybe piece %s 000\n" % name for name in names), " ".join(
-            "%s00" % "0123456789abcdefg"[at] for at in range(1, 17))))
-    write(path, (["0" + "".join(name if number >> at & 1 else "_" for at, name in enumerate(names))] for number in range(many)))
+def write_rows(work):
+    """Writes packings no two of which have the same pieces, or are alike: in a row of which the first cell is filled, and others may be. And such packings in
+    pairs that are drawn alike: before the row is a square of two copies, which lie in two ways."""
+    names, places = LETTERS[1:18], ["%s00" % DIGITS[at] for at in range(1, 18)]
+    text = "".join("maybe piece %s 000\n" % name for name in names)
+    for many in FEW, MANY:
+        path = os.path.join(work, "sets-%d" % many)
+        with open(path + ".puzzle", "w", encoding="ascii") as file:
+            file.write("piece 0 000\n%sbox 18 1 1\nmaybe cells %s\n" % (text, " ".join(places)))
+        write(path, ([row(names, "0", number)] for number in range(many)))
+        path = os.path.join(work, "pairs-%d" % many)
+        with open(path + ".puzzle", "w", encoding="ascii") as file:
+            file.write("any piece D 000 100\n%sbox 19 1 1\ncells 010 110\nmaybe cells %s i00\n" % (text.replace("D", "0"), " ".join(places[1:])))
+        others = names.replace("D", "0")
+        write(path, ([row(others, "DD", number // 2), "DD" + len(names) * "."] for number in range(many)))
+
+
+def row(names, before, number):
+    """A row of cells that are filled, or stay empty, by the bits of a number."""
+    return before + "".join([name if number >> at & 1 else "_" for at, name in enumerate(names)])
 
 
 # Runs a script, and then writes how many bytes it had at most. (What the system says of a child that has ended counts its parent's memory too.)
@@ -94,12 +104,6 @@ def taken(script, path):
         return 1024 * int(noted.read()), file.read().splitlines()[-1].decode("latin-1")
 
 
-def each(script, work, few, many):
-    """How many bytes a script takes for one packing more: of two files, each with its number of packings. And its last line of the second."""
-    (less, _), (more, last) = (taken(script, os.path.join(work, name)) for name, _ in (few, many))
-    return (more - less) / (many[1] - few[1]), last
-
-
 def told_at_terminal(path, patience):
     """What a script shows a terminal while it reads a file."""
     end, inner = pty.openpty()
@@ -116,33 +120,34 @@ def told_at_terminal(path, patience):
     return told.decode()
 
 
-# For each kind of packings the scripts that read it; where the last line of one is known, that line.
-PACKINGS = "packings %d"
+# For each kind of packings the scripts whose memory is looked at; and what the last lines of some are.
 SCRIPTS = {
-    "copies": {"draw_packings 5": None, "one_of_each --puzzle PUZZLE": PACKINGS % CLASSES, "unique --puzzle PUZZLE": "unique 0", "unique --given --puzzle PUZZLE": None,
-               "page --puzzle PUZZLE": None, "page": None, "check_packings PUZZLE": "ok %d" % TILINGS[MANY]},
-    "apart": {"one_of_each --puzzle PUZZLE": PACKINGS % TILINGS[MANY], "page --puzzle PUZZLE": None},
-    "turn": {"one_of_each --puzzle PUZZLE": PACKINGS % CLASSES, "page --puzzle PUZZLE": None},
+    "sets": ("draw_packings 5", "one_of_each --puzzle PUZZLE", "unique --puzzle PUZZLE", "unique --given --puzzle PUZZLE", "page --puzzle PUZZLE", "page",
+             "check_packings PUZZLE"),
+    "pairs": ("one_of_each --puzzle PUZZLE", "page --puzzle PUZZLE"),
 }
-SETS = 1 << 12, 1 << 15
+LAST = {
+    "one_of_each --puzzle PUZZLE": "packings %d" % MANY, "unique --puzzle PUZZLE": "unique %d" % MANY, "unique --given --puzzle PUZZLE": "unique 0",
+    "check_packings PUZZLE": "ok %d" % MANY,
+}
 
 
 def main(work):
-    for size in TILINGS:
-        write_tilings(work, size)
-    for many in SETS:
-        write_sets(work, many)
-    files = [(kind, script, last, [("%s-%dx%d" % (kind, *size), many) for size, many in TILINGS.items()])
-             for kind, scripts in SCRIPTS.items() for script, last in scripts.items()]
-    files.append(("sets", "unique --puzzle PUZZLE", "unique %d" % SETS[1], [("sets-%d" % many, many) for many in SETS]))
-    for kind, script, wanted, (few, many) in files:
-        size, last = each(script, work, few, many)
-        print("%s of %s: %.0f bytes a packing" % (script, kind, size))
-        assert size < MOST, "%s takes %.0f bytes for a packing (%s)" % (script, size, kind)
-        assert wanted in (None, last), "%s says %s (%s)" % (script, last, kind)
-    copies = [os.path.join(work, "copies-%dx%d" % size) for size in TILINGS]
-    assert " packings read so far" in told_at_terminal(copies[1], "0.1"), "no progress is shown"
-    assert told_at_terminal(copies[0], "600") == "", "what takes no time is shown"
+    write_tilings(work)
+    write_rows(work)
+    for kind in "copies", "turn":
+        _, last = taken("one_of_each --puzzle PUZZLE", os.path.join(work, kind))
+        assert last == "packings %d" % CLASSES, "%s: %s" % (kind, last)
+    for kind, scripts in SCRIPTS.items():
+        for script in scripts:
+            (less, _), (more, last) = (taken(script, os.path.join(work, "%s-%d" % (kind, many))) for many in (FEW, MANY))
+            each = (more - less) / (MANY - FEW)
+            print("%s of %s: %.0f bytes a packing" % (script, kind, each))
+            assert each < MOST, "%s takes %.0f bytes for a packing (%s)" % (script, each, kind)
+            assert LAST.get(script, last) == last, "%s says %s (%s)" % (script, last, kind)
+    path = os.path.join(work, "copies")
+    assert " packings read so far" in told_at_terminal(path, "0.1"), "no progress is shown"
+    assert told_at_terminal(path, "600") == "", "what takes no time is shown"
 
 
 if __name__ == "__main__":

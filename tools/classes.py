@@ -20,11 +20,11 @@ class Images:
         low = least_corner(puzzle.region)
         region, optional = (shifted(cells, low, (0, 0, 0)) for cells in (puzzle.region, puzzle.optional))
         number = {place: at for at, place in enumerate(self.fitting.places)}
-        self.turns = [
-            {number[place]: number[image[place]] for place in region}
-            for image in symmetries(region, rotations_only)
-            if {image[place] for place in optional} == {*optional}
-        ]
+        order = [number[place] for place in region]
+        found = [image for image in symmetries(region, rotations_only) if {image[place] for place in optional} == {*optional}]
+        # (of a flat region two turns each carry all cells to the same)
+        images = dict.fromkeys(tuple(number[image[place]] for place in region) for image in found)
+        self.turns = [dict(zip(order, image)) for image in images]
 
     def least(self, packing):
         """The least sum of the images of a packing, by which its class is known."""

@@ -1,6 +1,6 @@
 """Small puzzles drawn at random, with cells and pieces that may be left out, copies and pieces that are used any number of times: one_of_each, page
 and unique count of what the program prints what is counted here by trying all, and what `count --classes` says. Without the puzzle they say no
-number. Called by dev/check_tools, with a folder and the number of puzzles. Plain Python, NOT PROVED; it trusts nothing."""
+number. Called by dev/check_tools, with a folder, the number of puzzles and perhaps a seed. Plain Python, NOT PROVED; it trusts nothing."""
 
 import json
 import os
@@ -16,6 +16,7 @@ from cells import DIGITS, least_corner, moved, shifted, symmetries, word
 from puzzles import Puzzle, placements
 
 SIZES = ((2, 2, 1), (4, 1, 1), (3, 2, 1), (4, 2, 1), (3, 3, 1), (4, 3, 1), (5, 3, 1), (4, 4, 1), (2, 2, 2), (3, 2, 2), (3, 3, 2))
+PROGRAM = os.environ.get("POLYLAB") or os.path.join(TOP, "crates/polylab/out/polylab")
 WORDS = "piece", "maybe", "any", "mirror", "copies", "cells", "cut"
 # A puzzle is taken if it has packings, and at most this number.
 MOST = 400
@@ -51,7 +52,7 @@ def text_of(draw):
 
 def run(*words, text=None):
     """What the program prints, or None where it refuses."""
-    done = subprocess.run([os.environ["POLYLAB"], *words], input=text.encode(), stdout=subprocess.PIPE, stderr=subprocess.DEVNULL)
+    done = subprocess.run([PROGRAM, *words], input=text.encode(), stdout=subprocess.PIPE, stderr=subprocess.DEVNULL)
     return done.stdout.decode() if done.returncode == 0 else None
 
 
@@ -182,8 +183,8 @@ def guessed(path, work):
     return None
 
 
-def main(work, many):
-    draw, done, words = random.Random(78), 0, Counter()
+def main(work, many, seed):
+    draw, done, words = random.Random(seed), 0, Counter()
     while done < many:
         text = text_of(draw)
         counted = run("count", text=text)
@@ -198,4 +199,4 @@ def main(work, many):
 
 
 if __name__ == "__main__":
-    main(sys.argv[1], int(sys.argv[2]))
+    main(sys.argv[1], int(sys.argv[2]), *(sys.argv[3:] or ["polylab"]))

@@ -187,6 +187,9 @@ def guessed(path, work):
 
 def main(work, many, seed):
     draw, done, words = random.Random(seed), 0, Counter()
+    # (what the scripts that are started have as standard input)
+    with open(os.path.join(work, "input"), "wb"):
+        pass
     while done < many:
         text = text_of(draw)
         counted = run("count", text=text)

@@ -7,7 +7,7 @@ COMMANDS = answer check_packings convert count_packings draw_packings explain in
 # What these read from beside them.
 PARTS = burrtools.py cells.py classes.py colours.py copies.py covers.py drawing.py frame.py numbering.py packings.py polylab.py puzzles.py searched.py snapshots.py solids.py texts.py times.py \
 	page.css page_common.js page_packings.js page_search.js page_solid.js \
-	files.py guesses.py shares.py
+	files.py fitting.py shares.py
 SHARE = $(DESTDIR)$(PREFIX)/share
 LIB = $(DESTDIR)$(PREFIX)/lib/polylab
 # What behind the gate is --all-there: a crate whose tests aren't built is then a fault, and else skipped.

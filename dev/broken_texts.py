@@ -15,7 +15,8 @@ TEXTS = (
 )
 # Each script with its words; a word in braces is a file or folder of the work folder.
 SCRIPTS = (
-    "check_packings {two.puzzle}", "draw_packings", "one_of_each", "one_of_each --puzzle {two.puzzle}", "unique", "unique --given", "page",
+    "check_packings {two.puzzle}", "draw_packings", "one_of_each --puzzle {two.puzzle}", "unique --puzzle {two.puzzle}",
+    "unique --given --puzzle {two.puzzle}", "page", "page --puzzle {two.puzzle}",
     "page --session", "count_packings", "explain", "explain --cover", "convert json", "convert layers", "convert xmpuzzle", "convert stl {solids}",
 )
 
@@ -42,21 +43,30 @@ def start(name, words, work):
     os._exit(status or 0)
 
 
-def tried(script, text, work):
-    """What is wrong with how a script reads a text, or None. One Python starts the scripts again and again, each as a child."""
-    with open(os.path.join(work, "input"), "wb") as file:
-        file.write(text.encode("latin-1") + b"\n")
-    name, *words = (os.path.join(work, it[1:-1]) if it.startswith("{") else it for it in script.split())
+def ended(name, words, work):
+    """How a script ends over the file `input`, and what it writes. One Python starts the scripts again and again, each as a child."""
     child = os.fork()
     if not child:
         start(name, words, work)
     status = os.waitstatus_to_exitcode(os.waitpid(child, 0)[1])
-    said = {}
-    for path in ("told", "written"):
-        with open(os.path.join(work, path), encoding="latin-1") as file:
-            said[path] = file.read()
-    if status not in (0, 1) or "Traceback" in said["told"] or "what was read isn't" in said["told"] or (status and not any(said.values())):
-        return "%s of %r: status %d: %s" % (script, text, status, said["told"])
+    return status, said(work, "written")
+
+
+def said(work, path):
+    """What a script wrote."""
+    with open(os.path.join(work, path), encoding="latin-1") as file:
+        return file.read()
+
+
+def tried(script, text, work):
+    """What is wrong with how a script reads a text, or None."""
+    with open(os.path.join(work, "input"), "wb") as file:
+        file.write(text.encode("latin-1") + b"\n")
+    name, *words = (os.path.join(work, it[1:-1]) if it.startswith("{") else it for it in script.split())
+    status, written = ended(name, words, work)
+    told = said(work, "told")
+    if status not in (0, 1) or "Traceback" in told or "what was read isn't" in told or (status and not told + written):
+        return "%s of %r: status %d: %s" % (script, text, status, told)
     return None
 
 

@@ -37,6 +37,11 @@ def main():
     # Three items, of which the pairs leave one: 12 and 3, 23 and 1.
     text = polylab.cover_text([[1, 2], [2, 3], [1], [3]])
     assert sorted(sorted(map(tuple, cover)) for cover in polylab.covers(text)) == [[("1",), ("2", "3")], [("1", "2"), ("3",)]]
+    # A column without a one can't be covered: a matrix that has one has no cover. And its rows are lists, or what gives their entries one by one.
+    for row in [1, 1, 0, 0], (1, 0, 1, 0):
+        rows = [[column for column, entry in enumerate(it) if entry] for it in (iter(row), iter([0, 0, 1, 0]), iter([0, 1, 0, 0]))]
+        assert list(polylab.covers(polylab.cover_text(rows, range(4)))) == []
+        assert len(list(polylab.covers(polylab.cover_text(rows, range(3))))) == 1
     one_by_one = polylab.covers(text, 3)
     assert next(one_by_one)
     one_by_one.close()

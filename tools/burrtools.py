@@ -216,8 +216,8 @@ def ranges(counts, region, tell):
         fits = room // len(shape.filled)
         is_loose = not least and lies_on(shape, there)
         if is_loose and min(most, fits) == 1:
-            tell("shape %s is laid once or not at all: it becomes a `maybe piece`, which isn't laid on cells alone that may stay empty, and"
-                 " packings where it is are left out" % shape.name)
+            tell("shape %s is laid once or not at all, and could lie on cells alone that may stay empty, but no line of a puzzle text says that:"
+                 " it becomes a `maybe piece`, and the packings in which it lies so are left out" % shape.name)
         yield shape, least, max(least, min(most, fits)), not least and 1 < fits <= most and not is_loose
 
 

@@ -1,71 +1,51 @@
-"""Classes of packings that `polylab solve` printed: of one class are those that a turn of the region carries onto one another. Plain Python,
+"""Classes of packings that `polylab solve` printed: of one class are those that a symmetry of the region carries onto one another. Plain Python,
 NOT PROVED; it trusts that what it is given is what `solve` printed."""
 
-from array import array
-
 from cells import least_corner, shifted, symmetries
-from frame import stop
-from numbering import Numbering, sum_of
-from packings import places_of
+from fitting import Fitting
+from numbering import BITS, Numbering, sum_of
+
+WHOLE = (1 << BITS) - 1
+# Of the ways to lay a piece at most this number of sums is kept; others are made again.
+KEPT = 1 << 18
 
 
-def of_region(places, puzzle=None, rotations_only=False):
-    """The symmetries of the region drawn, that keep the cells that may stay empty where the puzzle is given."""
-    found = symmetries(places, rotations_only)
-    if puzzle:
-        spare = set(shifted(puzzle.optional, least_corner(puzzle.region), (0, 0, 0)))
-        if not spare <= set(places):
-            stop("the packings are of another region than the puzzle")
-        found = [image for image in found if {image[place] for place in spare} == spare]
-    return found
+class Images:
+    """The images of packings under the symmetries of the region, which keep the cells that may stay empty. A packing without its names is known by
+    the sum of what its pieces are known by: a number for the cells of each, made of these alone. So the sums of all images are made at once
+    of those of the pieces."""
 
+    def __init__(self, puzzle, rotations_only=False):
+        self.fitting, self.sums = Fitting(puzzle), {}
+        low = least_corner(puzzle.region)
+        region, optional = (shifted(cells, low, (0, 0, 0)) for cells in (puzzle.region, puzzle.optional))
+        number = {place: at for at, place in enumerate(self.fitting.places)}
+        order = [number[place] for place in region]
+        found = [image for image in symmetries(region, rotations_only) if {image[place] for place in optional} == {*optional}]
+        # (of a flat region two turns each carry all cells to the same)
+        images = dict.fromkeys(tuple(number[image[place]] for place in region) for image in found)
+        self.turns = [dict(zip(order, image)) for image in images]
 
-def partition(marks):
-    """A packing without names: for each cell, in order, the first cell of its piece; -1 for one that is empty."""
-    first = dict(zip(reversed(marks), range(len(marks) - 1, -1, -1)))
-    first["_"] = -1
-    return array("h", map(first.__getitem__, marks)).tobytes()
+    def least(self, packing):
+        """The least sum of the images of a packing, by which its class is known."""
+        sums = [self.sums.get(cells) or self.sums_of(cells) for cells in self.fitting.pieces(packing).values()]
+        return min([whole & WHOLE for whole in map(sum, zip(*sums))])
 
-
-class Turns:
-    """The symmetries of the region of some packings, as orders of its cells. All packings have to be of that region."""
-
-    def __init__(self, puzzle=None, rotations_only=False):
-        self.puzzle, self.rotations_only, self.size, self.outside, self.orders = puzzle, rotations_only, None, None, ()
-
-    def marks_of(self, packing):
-        """What is drawn at the cells of the region; the first packing says which these are."""
-        outside = [mark == "." for mark in packing.marks]
-        if self.size is None:
-            self.size, self.outside = packing.size, outside
-            places = [place for place, is_out in zip(places_of(self.size), outside) if not is_out]
-            at = {place: number for number, place in enumerate(places)}
-            self.orders = [[at[image[place]] for place in places] for image in of_region(places, self.puzzle, self.rotations_only)]
-        if (packing.size, outside) != (self.size, self.outside):
-            stop("these are packings of two regions")
-        return [mark for mark in packing.marks if mark != "."]
-
-    def sums(self, marks):
-        """The sum of each image of a packing without names, by what is drawn at the cells of the region."""
-        return [sum_of(partition(list(map(marks.__getitem__, order)))) for order in self.orders]
+    def sums_of(self, cells):
+        """For each symmetry what the image of a piece is known by."""
+        if len(self.sums) * len(self.turns) >= KEPT:
+            self.sums.clear()
+        self.sums[cells] = found = [sum_of(repr(sorted(map(turn.__getitem__, cells))).encode()) for turn in self.turns]
+        return found
 
 
 class Classes:
     """Numbers the classes of packings, as these come one after the other: of one class are those that a symmetry of the region carries onto
     one another."""
 
-    def __init__(self, puzzle=None, rotations_only=False):
-        self.turns, self.seen, self.classes, self.many = Turns(puzzle, rotations_only), Numbering(), array("I"), 0
+    def __init__(self, puzzle, rotations_only=False):
+        self.images, self.seen = Images(puzzle, rotations_only), Numbering()
 
     def number(self, packing):
         """The number of a packing's class, counted from 0 in the order of each class's first."""
-        marks = self.turns.marks_of(packing)
-        at = self.seen.number(sum_of(partition(marks)))
-        if at == len(self.classes):
-            # (its images are known from now on)
-            self.classes.append(self.many)
-            for image in self.turns.sums(marks):
-                if self.seen.number(image) == len(self.classes):
-                    self.classes.append(self.many)
-            self.many += 1
-        return self.classes[at]
+        return self.seen.number(self.images.least(packing))

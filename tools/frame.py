@@ -93,7 +93,7 @@ def escaped(text):
 
 def wrong(word, what):
     """Ends the script for a word of its command line."""
-    print("%s: %s: %s (%s --help tells the words)" % (NAME, escaped(word), what, NAME), file=sys.stderr)
+    print("%s: %s: %s (%s --help prints the words)" % (NAME, escaped(word), what, NAME), file=sys.stderr)
     sys.exit(2)
 
 

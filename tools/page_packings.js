@@ -61,13 +61,13 @@ function svgOf() {
   drawn.sort((one, other) => one.depth - other.depth);
   const parts = drawn.map(({face, corners}) => {
     const light = 0.66 + 0.34 * picture.towards(face), paint = rgb(paints[face.body]).map(it => Math.round(light * it));
-    const thick = picture.borders(solid, face).map(line => `<polyline points="${points(line)}" stroke-width="2.4"/>`);
+    const thick = picture.borders(solid, face).map(line => `<polyline points="${points(line)}" stroke-width="3.6" stroke-opacity="1"/>`);
     return `<polygon points="${points(corners)}" fill="rgb(${paint})"/>${thick.join("")}`;
   });
   const names = !get("names").checked ? [] : [...picture.spots(solid)].map(([body, {x, y, round}]) =>
     `<text x="${x.toFixed(1)}" y="${y.toFixed(1)}" font-size="${Math.max(8, Math.min(22, 1.25 * round)).toFixed(1)}">${nameOf(body).replace(/&/g, "&amp;").replace(/</g, "&lt;")}</text>`);
   return `<svg xmlns="http://www.w3.org/2000/svg" width="${width}" height="${height}" viewBox="0 0 ${width} ${height}">\n` +
-    `<g stroke="#24242a" stroke-width=".6" stroke-linejoin="round" stroke-linecap="round">\n${parts.join("\n")}\n</g>\n` +
+    `<g stroke="#24242a" stroke-width=".6" stroke-opacity=".5" stroke-linejoin="round" stroke-linecap="round">\n${parts.join("\n")}\n</g>\n` +
     '<g font-family="sans-serif" font-weight="bold" text-anchor="middle" dominant-baseline="central" paint-order="stroke" stroke="#fff" stroke-width="3" ' +
     `stroke-linejoin="round">\n${names.join("\n")}\n</g>\n</svg>\n`;
 }
@@ -150,7 +150,7 @@ function drawPieces() {
 // What the packing is among those like it, in words.
 function sayClass() {
   const alike = DATA.classes ? DATA.packings.map((_, k) => k).filter(k => DATA.classes[k] === DATA.classes[packing]) : [];
-  get("alike").textContent = !DATA.classes ? "" : "Class " + (1 + DATA.classes[packing]) + " of " + firstOf.length + ": number " + (1 + alike.indexOf(packing)) +
+  get("alike").textContent = !DATA.classes ? DATA.note : "Class " + (1 + DATA.classes[packing]) + " of " + firstOf.length + ": number " + (1 + alike.indexOf(packing)) +
     " of the " + alike.length + " that symmetries of the region carry onto one another.";
   return alike;
 }

@@ -6,7 +6,7 @@
     polylab.first(text, 10)                 # the first ten, or fewer where there are fewer
     polylab.packings(text)                  # the same one by one as they are found, slice by slice: what is left can still be stopped
     polylab.covers(text)                    # each exact cover of a cover text, also one by one, as a list of options; these are lists of items
-    polylab.cover_text([[1, 2], [2, 3]])    # a cover text of options, whose items are numbers or short words
+    polylab.cover_text([[1, 2], [2, 3]])    # a cover text of options, whose items are numbers or short words; a second list names the items
 
 A text that is refused raises Refused, which has the program's `status`, its `fault` and the `line` (0 for the whole text); so does all else for
 which the program doesn't end with 0. PROGRAM names the program: that of POLYLAB, of the checkout or installation beside this file, or the one
@@ -137,8 +137,8 @@ def covers(text, steps=10**7):
         yield [named[number - 1] for number in found]
 
 
-def cover_text(named):
-    """A cover text of options, each a list of items: all items have to be covered."""
+def cover_text(named, items=None):
+    """A cover text of options, each a list of items. All of `items` have to be covered; if these aren't given, all that the options have."""
     named = [[str(item) for item in option] for option in named]
-    items = dict.fromkeys(item for option in named for item in option)
-    return "".join(line + "\n" for line in ["items " + " ".join(items), *("option " + " ".join(option) for option in named)])
+    must = dict.fromkeys(item for option in named for item in option) if items is None else map(str, items)
+    return "".join(line + "\n" for line in ["items " + " ".join(must), *("option " + " ".join(option) for option in named)])

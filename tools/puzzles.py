@@ -5,7 +5,7 @@ from collections import namedtuple
 from itertools import product
 
 from cells import DIGITS, cell, shifted, turned
-from frame import read_file
+from frame import read_file, wrong
 from texts import Reader
 
 LETTERS = "0123456789ABCDEFGHIJKLMNOPQRSTUVWXYZabcdefghijklmnopqrstuvwxyz"
@@ -147,6 +147,13 @@ class Puzzle(Reader):
 def puzzle_of(path):
     """The puzzle in a file, or on standard input where there is none."""
     return Puzzle(read_file(path or "-"))
+
+
+def puzzle_needed(options):
+    """The puzzle in the file that --puzzle names, without which a script can't count."""
+    if "--puzzle" not in options:
+        wrong("--puzzle", "give the puzzle, by --puzzle FILE.puzzle: the drawings alone don't show which cells may stay empty, nor what is one piece")
+    return puzzle_of(options["--puzzle"])
 
 
 def starts(puzzle, piece):

@@ -11,7 +11,7 @@ STRANGE = (
     (rb"%PDF", "This is a PDF, and no puzzle."),
     (rb"(?i)\s*(<!doctype html|<html)", "This is a page of the web, and no puzzle."),
     (rb"(?i)\s*(<\?xml[^>]*>\s*)?(<!--.*?-->\s*)?(<!doctype svg[^>]*>\s*)?<svg", "This is a picture, and no puzzle: pieces are drawn here, cell by cell."),
-    (rb"\s*solid \w|.{80}[^\0]?\0\0\0.*\0", "This may be a solid for a printer, and is no puzzle."),
+    (rb"\s*solid \w", "This is a solid for a printer, and no puzzle."),
 )
 
 

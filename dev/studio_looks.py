@@ -57,7 +57,8 @@ def check_region(page):
     page.browser.press("Enter")
     page.settled()
     focus(page, "#grid td")
-    page.browser.press(" ")
+    for key in ("Home", "ArrowUp", "ArrowUp", " "):
+        page.browser.press(key)
     page.value("document.querySelector('#how [value=spare]').click()")
     focus(page, "#grid td")
     for key in ("ArrowRight", " "):

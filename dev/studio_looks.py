@@ -4,7 +4,7 @@ Python, NOT PROVED; it trusts what Chromium hands to screen readers."""
 import os
 import time
 
-from studio_process import need
+from studio_process import PATIENCE, need
 
 # Roles that Tab or the arrow keys come to, each of which needs a name.
 NAMED = {"button", "textbox", "combobox", "listbox", "spinbutton", "checkbox", "radio", "tab", "gridcell", "slider", "link", "searchbox", "img", "Iframe", "progressbar", "dialog"}
@@ -97,6 +97,40 @@ def check_looks(page, pictures):
         page.browser.screenshot(os.path.join(pictures, "studio-%s-%s.png" % ("dark" if dark else "light", "narrow" if width < 500 else "wide")))
     page.browser.look(width=1200, height=850)
     return "dark, light, narrow and wide"
+
+
+def check_other(browser, studio, pictures):
+    """In another browser: the Soma set and its box by clicks, a piece by keys, 240 classes that are shown, and the end."""
+
+    def until(holds, what):
+        end = time.monotonic() + PATIENCE
+        while browser.value(holds) is not True:
+            need(time.monotonic() < end, "in Firefox it doesn't come to be: %s (%s)" % (what, browser.value("JSON.stringify({...document.body.dataset})")))
+            time.sleep(0.2)
+
+    browser.look(1200, 900)
+    browser.open(studio.address)
+    until("document.body.dataset.begun === '1'", "the page begins")
+    browser.click("#newpiece")
+    browser.press(" ", "ArrowRight", " ", "PageUp", " ")
+    until("get('text').value === 'piece A 000 100 101\\n'", "a piece by keys")
+    browser.click("#undo")
+    browser.click("#undo")
+    browser.click("#undo")
+    until("get('text').value === ''", "undo")
+    browser.value("(get('sets').value = 'soma', get('sets').dispatchEvent(new Event('change')))")
+    until("document.body.dataset.pieces === '7' && document.querySelector('#boxes button') !== null", "the Soma set")
+    browser.click("#boxes button")
+    until("document.body.dataset.headline === 'The cells fit exactly' && document.body.dataset.read === '1'", "its box")
+    browser.click("[data-kind=classes]")
+    until("document.body.dataset.search === 'done' && document.body.dataset.found === '240'", "240 classes")
+    until("get('frame').contentDocument?.body?.dataset.total === '240'", "240 packings are shown")
+    until("location.hash.startsWith('#puzzle=')", "the address holds the puzzle")
+    browser.screenshot(os.path.join(pictures, "studio-firefox.png"))
+    browser.open("about:blank")
+    need(studio.ended(40), "the studio doesn't end with its page in Firefox")
+    studio.is_clean()
+    return "Firefox"
 
 
 def check_closed(page):

@@ -14,7 +14,7 @@ from frame import stop
 
 # All that a studio begins has this in its environment, by which it is found again.
 MARK = "POLYLAB_STUDIO_OF_A_CHECK"
-PATIENCE = 240
+PATIENCE = 600
 
 
 def need(holds, what):

@@ -121,6 +121,42 @@ def check_ends(work):
     return "two studios, and how they end"
 
 
+# A program whose searches fail, in the way that stands in place of the mark.
+FAILING = """#!/bin/sh
+case $1 in
+    --version) echo 'polylab 0.1.0' ;;
+    debug) printf 'snapshot 8\\npolysnap 1\\nproblem 2\\nitems A 000\\noption A 000\\nfrom start\\nto end\\nstate X1 -\\nend\\n' ;;
+    resume) MARK ;;
+esac
+"""
+# How, and what is told of it.
+FAILURES = (('[ "$(ulimit -v)" = 300000 ] && exit 4', "ran out of memory: here it may take 300 MB"), ("kill -9 $$", "ended from outside"), ("exit 5", "ended with status 5"),
+    ("echo nonsense", "is no answer"))
+
+
+def check_failures(work):
+    """A search that runs out of its memory, that is ended from outside, or of which the program tells nonsense says so."""
+    path = os.path.join(work, "failing")
+    for way, said in FAILURES:
+        with open(path, "w", encoding="ascii") as file:
+            file.write(FAILING.replace("MARK", way))
+        os.chmod(path, 0o755)
+        studio = Studio(os.path.join(work, "fails"), "--memory", "300", POLYLAB=path)
+        try:
+            line, answer = studio.events()
+            studio.post("search", kind="all", text="piece A 000\nbox 1 1 1\n")
+            now = {"state": "running"}
+            while now["state"] in ("idle", "running"):
+                now = next_told(answer)
+            need(now["state"] == "failed" and said in now["said"], "of a program that does %s it is told: %s" % (way, now))
+            answer.close()
+            line.close()
+        finally:
+            studio.end()
+        studio.is_clean()
+    return "searches that fail"
+
+
 def check_search(studio):
     """The Soma cube has 11,520 packings in 240 classes; a long search is stopped, goes on, and ends with its page."""
     line, answer = studio.events()

@@ -156,6 +156,8 @@ def check_kept(page):
     page.until("location.hash.startsWith('#puzzle=')", "the address holds the puzzle")
     page.value("location.reload()")
     page.until("window.studio === undefined && typeof studio !== 'undefined' && document.body?.dataset.begun === '1' && get('text').value === %s" % json.dumps(text), "the page is loaded again")
+    page.press("burrtools")
+    need(page.saved(".xmpuzzle").count(b"<voxel") == 8, "there is no file of BurrTools")
     page.press("solids")
     page.press("makesolids")
     need(page.saved(".zip").count(b"piece-V.stl") == 2, "there are no solids")

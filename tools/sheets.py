@@ -5,7 +5,7 @@ import functools
 import html
 
 from cells import least_corner, moved, shifted, size_of, so_many
-from colours import PALETTE, chosen, colours, shaded
+from colours import PALETTE, chosen, colours, is_dark
 from copies import Copies
 from packings import Solved
 from pictures import assembled, drawn_faces, page_of, picture
@@ -24,7 +24,7 @@ h1 { font-size: 24px; margin: 0 0 2mm } h2 { font-size: 16px; margin: 6mm 0 2mm 
 .many { display: flex; flex-wrap: wrap; gap: 5mm; align-items: flex-end }
 figure { margin: 0; break-inside: avoid } figcaption { font-size: 12px; color: #555 }
 .page { break-before: page } .page svg { max-width: 100%; max-height: 250mm; height: auto }
-svg text { font: bold 9px sans-serif; text-anchor: middle; dominant-baseline: central }
+figure svg text { font: bold 9px sans-serif; text-anchor: middle; dominant-baseline: central }
 @media print { body { margin: 0 } }
 """
 
@@ -47,9 +47,10 @@ def squares(cells, unit, name, fill, spare=()):
             if (x + dx, y + dy, z) not in there:
                 parts.append('<path d="M%d %d%s" stroke="#111" stroke-width="1.4" stroke-linecap="square"/>' % (20 * (x + (dx > 0)), 20 * (y + (dy > 0)), line))
         if name or (x, y, z) in spare:
-            parts.append('<text x="%d" y="%d">%s</text>' % (20 * x + 10, 20 * y + 10, html.escape(name) or "+"))
+            ink = "#fff" if is_dark(fill) else "#111"
+            parts.append('<text x="%d" y="%d" fill="%s">%s</text>' % (20 * x + 10, 20 * y + 10, ink, html.escape(name) or "+"))
     return '<svg width="%.1fmm" height="%.1fmm" viewBox="-1 -1 %d %d" role="img">%s</svg>' % (
-        unit * wide, unit * high, 20 * wide + 2, 20 * high + 2, "".join(parts))
+        unit * (wide + 0.1), unit * (high + 0.1), 20 * wide + 2, 20 * high + 2, "".join(parts))
 
 
 def figure(drawing, words):
@@ -73,7 +74,7 @@ def board(puzzle, unit):
     region, spare = shifted(puzzle.region, low, (0, 0, 0)), set(shifted(puzzle.optional, low, (0, 0, 0)))
     for number, cells in enumerate(layers_of(region)):
         if cells:
-            yield figure(squares(cells, unit, "", "#fff", {(x, y, 0) for x, y, z in spare if z == number}), "layer z = %d" % number if size_of(region)[2] > 1 else "")
+            yield figure(squares(cells, unit, "", "#ffffff", {(x, y, 0) for x, y, z in spare if z == number}), "layer z = %d" % number if size_of(region)[2] > 1 else "")
 
 
 def paint(puzzle, text):
@@ -88,7 +89,7 @@ def pieces_told(puzzle, paints, unit):
         cells = moved(flat(piece.cells))
         told = piece.name + {"maybe": ", may be left out", "spare": ", may be left out", "any": ", any number of times", "": ""}[piece.need]
         if size_of(cells)[2] == 1:
-            yield figure(squares(cells, unit, piece.name, shaded(paints[piece.name], 1)), told)
+            yield figure(squares(cells, unit, piece.name, paints[piece.name]), told)
         else:
             yield figure(solid_of(cells, piece.name, paints[piece.name]), "%s, %s" % (told, so_many(len(cells))))
 
@@ -97,7 +98,7 @@ def sheet(text, title):
     """The empty board and the pieces of a puzzle text, to be printed. Board and flat pieces have one scale."""
     puzzle = Puzzle(text)
     longest = max(size_of(moved(cells))[0] for cells in [puzzle.region, *(flat(piece.cells) for piece in puzzle.pieces)])
-    unit, paints = min(CELL, WIDE / longest), paint(puzzle, text)
+    unit, paints = min(CELL, WIDE / (longest + 0.1)), paint(puzzle, text)
     are_flat = all(size_of(moved(flat(piece.cells)))[2] == 1 for piece in puzzle.pieces)
     body = ["<p>%d pieces of %s, and a region of %d.</p>" % (len(puzzle.pieces), so_many(sum(len(piece.cells) for piece in puzzle.pieces)), len(puzzle.region)),
         "<h2>The board</h2><div class=many>", *board(puzzle, unit), "</div>",

@@ -15,7 +15,7 @@ from frame import VERSION, stop
 from puzzles import LETTERS, Puzzle
 from snapshots import problem_text
 from solids import Surface, flat, obj, stl
-from studio_files import opened
+from studio_files import converted, opened
 from studio_puzzle import SETS, bytes_of, set_of, told
 from studio_search import KINDS
 
@@ -38,7 +38,7 @@ class Desk:
     def __init__(self, runs, search, program, bounds, link):
         self.runs, self.search, self.program, self.bounds, self.link, self.pages = runs, search, program, bounds, link, OrderedDict()
         self.acts = {name: getattr(self, "do_" + name) for name in ("begin", "read", "set", "search", "stop", "go", "show", "steps", "solids", "json", "solved",
-            "booklet", "sheet")}
+            "booklet", "sheet", "burrtools")}
 
     def made(self, name):
         """A page that was made, and its policy."""
@@ -108,6 +108,10 @@ class Desk:
         with self.runs.tool("session", ["--walk", str(many), "--show", "{puzzle}"], b"", text)[0] as walk:
             with self.runs.tool("page", ["--session", "--title=" + title_of(asked)], walk)[0] as file:
                 return {"address": self.keep(file.read().decode())}
+
+    def do_burrtools(self, asked):
+        """The puzzle as a file of BurrTools."""
+        return converted(self.runs, ["burrtools", "--problem=" + title_of(asked)], bytes_of(text_of(asked)).encode("latin-1"))
 
     def do_solids(self, asked):
         """The pieces as solids for a printer, a file for each, packed together."""

@@ -71,6 +71,13 @@ async function showLink() {
   get("linkdialog").showModal();
 }
 
+// The puzzle as a file of BurrTools, and what BurrTools can't say.
+async function saveBurrTools() {
+  const {text, notes} = await askedFor("burrtools", {text: studio.text, title: studio.title});
+  saveFile(new Blob([text], {type: "application/xml"}), studio.title + ".xmpuzzle");
+  if (notes.length) say(notes.map(it => "Note: " + it + ".").join(" "));
+}
+
 async function makeSolids() {
   const values = {edge: +get("edge").value, gap: +get("gap").value, bevel: +get("bevel").value, format: get("format").value};
   try {
@@ -105,6 +112,7 @@ function listenFiles() {
   get("takelink").onclick = async () => { get("linkdialog").close(); await trying(() => openLink(get("openlink").value)); get("openlink").value = ""; };
   get("sheet").onclick = () => trying(async () => openMade((await askedFor("sheet", {text: studio.text, title: studio.title})).address));
   get("solids").onclick = () => { get("solidsaid").textContent = ""; get("soliddialog").showModal(); };
+  get("burrtools").onclick = () => trying(saveBurrTools);
   get("makesolids").onclick = makeSolids;
   get("title").onchange = () => setTitle(get("title").value);
   let inside = 0;

@@ -25,9 +25,9 @@ def opened(runs, data):
     text = data.decode("latin-1")
     kind, _ = kind_of(text)
     if kind and "convert xmpuzzle" in kind:
-        return converted(runs, "xmpuzzle", data)
+        return converted(runs, ["xmpuzzle"], data)
     if kind and "convert layers" in kind:
-        return converted(runs, "layers", data)
+        return converted(runs, ["layers"], data)
     if kind:
         stop(installed_words("This is " + kind) + ".")
     notes = []
@@ -36,9 +36,9 @@ def opened(runs, data):
     return {"text": data.decode("utf-8", "replace").replace("\r\n", "\n"), "notes": notes}
 
 
-def converted(runs, job, data):
+def converted(runs, words, data):
     """What tools/convert makes of a file, with its notes."""
-    file, said = runs.tool("convert", [job], data)
+    file, said = runs.tool("convert", words, data)
     with file:
         text = file.read().decode("utf-8", "replace")
     return {"text": text, "notes": re.findall(r"^\S+: note: (.*)$", said, re.M)}

@@ -58,7 +58,7 @@ function drawKinds() {
   const isReady = studio.told?.is_whole && !studio.told.numbers.large, isRunning = search.now.state === "running";
   document.querySelectorAll("#kinds [data-kind]").forEach(button => { button.disabled = !isReady || isRunning; });
   get("steps").disabled = !isReady;
-  get("sheet").disabled = !isReady;
+  get("sheet").disabled = get("burrtools").disabled = !isReady;
   get("solids").disabled = !studio.lines.pieces.length;
 }
 

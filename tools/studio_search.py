@@ -13,7 +13,7 @@ from shares import Estimate
 from sliced import Sliced, next_steps
 from snapshots import numbers, problem_text
 
-# A slice takes so many seconds, and the first one has so many steps.
+# A slice takes so many seconds, and has so many steps at least: on a machine that has much to do its start takes longer than the steps.
 SECONDS, FIRST = 1.0, 200000
 # So many packings are kept at most.
 KEPT = 200000
@@ -161,7 +161,7 @@ class Search:
     def step(self):
         """One slice more; whether it was the last."""
         is_end, took, visits = self.sliced.slice(self.most, KINDS[self.kind] > 0)
-        self.most = next_steps(self.most, SECONDS, took)
+        self.most = max(FIRST, next_steps(self.most, SECONDS, took))
         is_full = self.found.add(visits, self.sliced.snapshot.problem)
         share = 1.0 if is_end else self.sliced.share(self.estimate)
         left = self.estimate.left(share, self.sliced.seconds) if share and not is_end else None

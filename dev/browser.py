@@ -91,10 +91,19 @@ class Browser:
         finally:
             self.session = before
 
-    def click(self, selector):
-        """Clicks the middle of an element, which is brought into sight first."""
-        x, y = self.value("(() => { const it = document.querySelector(%s); it.scrollIntoView({block: 'center', behavior: 'instant'}); const box = it.getBoundingClientRect();"
+    def tap(self, selector):
+        """Taps the middle of an element with a finger."""
+        x, y = self.middle(selector)
+        self.ask("Input.synthesizeTapGesture", x=x, y=y)
+
+    def middle(self, selector):
+        """Where the middle of an element is, which is brought into sight first."""
+        return self.value("(() => { const it = document.querySelector(%s); it.scrollIntoView({block: 'center', behavior: 'instant'}); const box = it.getBoundingClientRect();"
                           " return [box.left + box.width / 2, box.top + box.height / 2]; })()" % json.dumps(selector))
+
+    def click(self, selector):
+        """Clicks the middle of an element."""
+        x, y = self.middle(selector)
         for kind in ("mouseMoved", "mousePressed", "mouseReleased"):
             self.ask("Input.dispatchMouseEvent", type=kind, x=x, y=y, button="none" if kind == "mouseMoved" else "left", clickCount=0 if kind == "mouseMoved" else 1)
 

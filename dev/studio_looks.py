@@ -1,6 +1,7 @@
 """What the studio is like by keys alone, for a screen reader, in narrow and dark windows, and how it ends with its page. For dev/check_studio. Plain
 Python, NOT PROVED; it trusts what Chromium hands to screen readers."""
 
+import json
 import os
 import time
 
@@ -13,7 +14,7 @@ NAMED = {"button", "textbox", "combobox", "listbox", "spinbutton", "checkbox", "
 def focus(page, name):
     """Presses Tab until an element has the focus."""
     for _ in range(150):
-        if page.value("document.activeElement.id") == name or page.value("document.activeElement.matches(%s)" % repr(name if name[0] in "#[" else "#" + name)):
+        if page.value("document.activeElement.id") == name or page.value("document.activeElement.matches(%s)" % json.dumps(name if name[0] in "#[" else "#" + name)):
             return
         page.browser.press("Tab")
     need(False, "Tab doesn't come to %s" % name)
@@ -95,8 +96,16 @@ def check_looks(page, pictures):
         wide = page.value("document.documentElement.scrollWidth")
         need(wide <= width, "it is %d wide in a window of %d" % (wide, width))
         page.browser.screenshot(os.path.join(pictures, "studio-%s-%s.png" % ("dark" if dark else "light", "narrow" if width < 500 else "wide")))
+    page.browser.look(width=360, height=850, touch=True)
+    page.press("newpiece")
+    before = page.text()
+    page.browser.tap("#grid tr:nth-child(2) td:nth-child(2)")
+    page.until("get('text').value !== %s" % json.dumps(before), "a finger sets a cell")
+    page.press("undo")
+    page.until("get('text').value === %s" % json.dumps(before), "it is undone")
+    page.settled()
     page.browser.look(width=1200, height=850)
-    return "dark, light, narrow and wide"
+    return "dark, light, narrow and wide, and a finger"
 
 
 def check_other(browser, studio, pictures):

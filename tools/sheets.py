@@ -32,7 +32,8 @@ figure svg text { font: bold 9px sans-serif; text-anchor: middle; dominant-basel
 def page(title, body):
     """A whole page."""
     title = html.escape(title)
-    return "<!doctype html>\n<html lang=en><meta charset=utf-8><meta name=viewport content='width=device-width'>\n<title>%s</title>\n<style>%s</style>\n<h1>%s</h1>\n%s\n</html>\n" % (
+    return "<!doctype html>\n<html lang=en><meta charset=utf-8><meta name=viewport content='width=device-width'>\n<title>%s</title>\n" \
+        "<style>%s</style>\n<h1>%s</h1>\n%s\n</html>\n" % (
         title, STYLE, title, "\n".join(body))
 
 
@@ -74,7 +75,8 @@ def board(puzzle, unit):
     region, spare = shifted(puzzle.region, low, (0, 0, 0)), set(shifted(puzzle.optional, low, (0, 0, 0)))
     for number, cells in enumerate(layers_of(region)):
         if cells:
-            yield figure(squares(cells, unit, "", "#ffffff", {(x, y, 0) for x, y, z in spare if z == number}), "layer z = %d" % number if size_of(region)[2] > 1 else "")
+            drawing = squares(cells, unit, "", "#ffffff", {(x, y, 0) for x, y, z in spare if z == number})
+            yield figure(drawing, "layer z = %d" % number if size_of(region)[2] > 1 else "")
 
 
 def paint(puzzle, text):
@@ -120,7 +122,8 @@ def booklet(text, title, lines, most):
     paints = paint(puzzle, text)
     body = ["<p>%d pieces, and a region of %s. Here are %d of %s packings.</p>" % (
         len(puzzle.pieces), so_many(len(puzzle.region)), len(found), "at least %d" % solved.count if solved.is_first else solved.count),
-        "<h2>The pieces</h2><div class=many>", *(figure(solid_of(moved(flat(piece.cells)), piece.name, paints[piece.name]), piece.name) for piece in puzzle.pieces), "</div>"]
+        "<h2>The pieces</h2><div class=many>"]
+    body += [figure(solid_of(moved(flat(piece.cells)), piece.name, paints[piece.name]), piece.name) for piece in puzzle.pieces] + ["</div>"]
     pictures = [functools.partial(picture, number, marks, colours(marks, names, own)) for number, marks in found]
     size = COLUMNS * ROWS
     body += ["<div class=page>%s</div>" % page_of(pictures[at : at + size], COLUMNS) for at in range(0, len(pictures), size)]

@@ -11,7 +11,7 @@ from collections import OrderedDict
 
 import sheets
 from colours import DISTANCES, PALETTE
-from frame import VERSION, stop
+from frame import stop
 from puzzles import LETTERS, Puzzle
 from snapshots import problem_text
 from solids import Surface, flat, obj, stl
@@ -61,7 +61,7 @@ class Desk:
     def do_begin(self, _):
         """What the page has to know first."""
         version, revision = self.program
-        return {"version": version, "revision": revision, "scripts": VERSION, "bounds": self.bounds, "palette": PALETTE, "distances": DISTANCES, "letters": LETTERS, "link": self.link,
+        return {"version": version, "revision": revision, "bounds": self.bounds, "palette": PALETTE, "distances": DISTANCES, "letters": LETTERS, "link": self.link,
             "sets": [[name, words] for name, (words, _) in SETS.items()]}
 
     def do_read(self, asked):

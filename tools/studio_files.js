@@ -37,7 +37,9 @@ function openText(text, name) {
 async function openFile(file) {
   if (file.size > MOST_FILE) throw new Error(file.name + " has " + Math.round(file.size / 1e6) + " MB, and a puzzle has one at most: it isn't opened.");
   let told;
-  try { told = await (await ask("open", await file.arrayBuffer(), "application/octet-stream")).json(); } catch (why) { throw new Error(file.name + ": " + why.message); }
+  try {
+    told = await (await ask("open", await file.arrayBuffer(), "application/octet-stream")).json();
+  } catch (why) { throw new Error(file.name + ": " + why.message); }
   openText(told.text, file.name.replace(/\.[^.]*$/, ""));
   say(told.notes.length ? file.name + " was opened. " + told.notes.map(it => "Note: " + it + ".").join(" ") : file.name + " was opened.");
 }
@@ -107,7 +109,8 @@ function listenFiles() {
   get("link").onclick = () => trying(showLink);
   get("copylink").onclick = async () => {
     get("linktext").select();
-    try { await navigator.clipboard.writeText(get("linktext").value); get("linksaid").textContent = "Copied."; } catch { get("linksaid").textContent = "Copy it by Ctrl+C."; }
+    const isCopied = await navigator.clipboard?.writeText(get("linktext").value).then(() => true, () => false);
+    get("linksaid").textContent = isCopied ? "Copied." : "Copy it by Ctrl+C.";
   };
   get("takelink").onclick = async () => { get("linkdialog").close(); await trying(() => openLink(get("openlink").value)); get("openlink").value = ""; };
   get("sheet").onclick = () => trying(async () => openMade((await askedFor("sheet", {text: studio.text, title: studio.title})).address));

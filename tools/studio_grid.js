@@ -81,7 +81,7 @@ function drawLayers(cells, size) {
     make(tab, "span", "z = " + DIGITS[z]);
     if (isNow && hadFocus) tab.focus();
   }
-  get("layersaid").textContent = "Layer z = " + studio.layer + (studio.layer === 0 ? ", the lowest." : ".") + (studio.layer ? " A dot is a cell of the layer below." : "");
+  get("layersaid").textContent = "Layer z = " + studio.layer + (studio.layer ? ". A dot is a cell of the layer below." : ", the lowest.");
 }
 function drawLayer(canvas, cells, size, z) {
   const side = Math.max(1, Math.floor(40 / Math.max(size[0], size[1]))), pen = canvas.getContext("2d");
@@ -128,6 +128,9 @@ function setCell(place, how) {
   drawn(entry);
 }
 
+// A cell becomes what it isn't.
+function switchCell(place) { setCell(place, changed(cellsNow().get(keyOf(place)))); }
+
 // The cell of the grid at a point of the page, or null.
 function placeAt(x, y) {
   const cell = document.elementFromPoint(x, y)?.closest?.("#grid td");
@@ -146,10 +149,16 @@ function goToCell(x, y) {
 
 function listenGrid() {
   const table = get("grid");
-  let painting = null;
+  let painting = null, isFinger = false;
+  // (a finger that moves on goes over the page: what it taps is set when it is lifted)
+  table.onclick = event => {
+    const place = isFinger && placeAt(event.clientX, event.clientY);
+    if (place) { goToCell(place[0], place[1]); switchCell(place); }
+  };
   table.onpointerdown = event => {
     const place = placeAt(event.clientX, event.clientY);
-    if (!place || event.button !== 0) return;
+    isFinger = event.pointerType === "touch";
+    if (!place || event.button !== 0 || isFinger) return;
     event.preventDefault();
     goToCell(place[0], place[1]);
     painting = changed(cellsNow().get(keyOf(place)));
@@ -164,18 +173,19 @@ function listenGrid() {
   window.addEventListener("pointercancel", () => { painting = null; });
   table.onkeydown = event => {
     if (event.ctrlKey || event.metaKey || event.altKey) return;
-    const [x, y] = grid.at, to = {ArrowLeft: [x - 1, y], ArrowRight: [x + 1, y], ArrowUp: [x, y - 1], ArrowDown: [x, y + 1], Home: [0, y], End: [grid.size[0] - 1, y]}[event.key];
+    const [x, y] = grid.at, last = grid.size[0] - 1;
+    const to = {ArrowLeft: [x - 1, y], ArrowRight: [x + 1, y], ArrowUp: [x, y - 1], ArrowDown: [x, y + 1], Home: [0, y], End: [last, y]}[event.key];
     const by = {PageUp: 1, PageDown: -1}[event.key];
     if (to) goToCell(...to);
     else if (by) { chooseLayer(studio.layer + by); goToCell(...grid.at); }
-    else if (event.key === " " || event.key === "Enter") { const place = [x, y, studio.layer]; setCell(place, changed(cellsNow().get(keyOf(place)))); goToCell(...grid.at); }
+    else if (event.key === " " || event.key === "Enter") { switchCell([x, y, studio.layer]); goToCell(...grid.at); }
     else return;
     event.preventDefault();
   };
   get("layertabs").onkeydown = event => {
-    const to = {ArrowRight: studio.layer + 1, ArrowDown: studio.layer + 1, ArrowLeft: studio.layer - 1, ArrowUp: studio.layer - 1, Home: 0, End: grid.size[2] - 1}[event.key];
-    if (to === undefined) return;
+    const by = {ArrowRight: 1, ArrowDown: 1, ArrowLeft: -1, ArrowUp: -1, Home: -LONGEST, End: LONGEST}[event.key];
+    if (by === undefined) return;
     event.preventDefault();
-    chooseLayer(to);
+    chooseLayer(Math.max(0, Math.min(grid.size[2] - 1, studio.layer + by)));
   };
 }

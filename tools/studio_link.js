@@ -13,12 +13,18 @@ function showText(text) {
 async function handOver() {
   let found = null;
   try { found = await unpacked(location.hash); } catch { shown("more").textContent = "This link is spoilt: it may have been cut when it was copied."; return; }
-  if (!found) { shown("said").textContent = "This is the studio's door"; shown("more").textContent = "The studio itself has the address that was printed where it was started."; return; }
+  if (!found) {
+    shown("said").textContent = "This is the studio's door";
+    shown("more").textContent = "The studio itself has the address that was printed where it was started.";
+    return;
+  }
   shown("said").textContent = "A link to the puzzle “" + (found.name || "without a name") + "”";
   showText(found.text);
   if (!window.BroadcastChannel) { shown("more").textContent = "Copy this text into the studio."; return; }
   const channel = new BroadcastChannel("polylab studio");
-  const late = setTimeout(() => { shown("more").textContent = "No studio is open in this browser: copy this text, or the address of this page, into the one that you have."; }, 2000);
+  const late = setTimeout(() => {
+    shown("more").textContent = "No studio is open in this browser: copy this text, or the address of this page, into the one that you have.";
+  }, 2000);
   channel.onmessage = event => {
     if (event.data !== "here") return;
     clearTimeout(late);

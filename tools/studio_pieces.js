@@ -8,7 +8,10 @@ function colourOf(names) {
 }
 
 // A piece that is still without cells: it has no line yet.
-function newPiece() { return {kind: "piece", need: "", mirror: false, names: studio.lines.free(DATA.letters.slice(10) + DATA.letters.slice(0, 10))[0] || "A", cells: [], comment: ""}; }
+function newPiece() { return {kind: "piece", need: "", mirror: false, names: freeNames()[0] || "A", cells: [], comment: ""}; }
+
+// The names that no piece has, capital letters first.
+function freeNames() { return studio.lines.free(DATA.letters.slice(10) + DATA.letters.slice(0, 10)); }
 
 const START = [-0.6, 0.5], pencil = new Picture();
 // A small picture of some cells, in a canvas that isn't wider than it is.
@@ -17,14 +20,16 @@ function drawSmall(canvas, cells, colour, spare = []) {
   pen.clearRect(0, 0, canvas.width, canvas.height);
   if (!all.length) return;
   const shape = new Solid(atCorner(all), all.map((_, at) => at < cells.length ? 0 : 1), 2), faces = shape.faces(body => body >= 0);
-  const view = {turn: START[0], tilt: START[1], zoom: 1}, how = {width: canvas.width, height: canvas.height, samples: 2, paints: [colour, "#e8e8e4"].map(rgb), line: 1.6};
+  const view = {turn: START[0], tilt: START[1], zoom: 1}, paints = [colour, "#e8e8e4"].map(rgb);
+  const how = {width: canvas.width, height: canvas.height, samples: 2, paints, line: 1.6};
   pen.putImageData(pencil.draw(shape, faces, shape.moves(0), view, how), 0, 0);
 }
 
 // How often a piece is used, in a word or two.
 function usedOf(entry) {
   const {least, most} = numberOf(entry.names);
-  const often = entry.need === "any" ? "any number" : entry.need === "maybe" ? "or left out" : most > 1 ? (least < most ? least + " to " + most : most) + " copies" : "";
+  const copies = most > 1 ? (least < most ? least + " to " + most : most) + " copies" : "";
+  const often = {any: "any number", maybe: "or left out"}[entry.need] || copies;
   return [often, entry.mirror ? "reflected too" : ""].filter(Boolean).join(", ");
 }
 
@@ -42,7 +47,7 @@ function drawPieces() {
     drawSmall(canvas, entry.cells, colourOf(entry.names));
     const ways = studio.told.numbers.ways[entry.names.replace("+", "")[0]];
     make(words, "b", entry.names);
-    make(words, "small", entry.cells.length + (entry.cells.length === 1 ? " cell" : " cells") + (ways !== undefined && studio.told.numbers.region[1] ? ", " + ways + (ways === 1 ? " way" : " ways") : ""));
+    make(words, "small", counted(entry.cells.length, "cell") + (ways !== undefined && studio.told.numbers.region[1] ? ", " + counted(ways, "way") : ""));
     if (usedOf(entry)) make(words, "small", usedOf(entry), "used");
     if (entry.same?.length) make(words, "small", "same shape as " + entry.same.join(" "), "kin");
     card.setAttribute("aria-current", entry === chosen);
@@ -92,8 +97,8 @@ function drawControls() {
   for (const id of ["ofpiece", "piecetools"]) get(id).hidden = isRegion;
   get("ofregion").hidden = !isRegion;
   get("editorhead").textContent = isRegion ? "The region to fill" : "Piece " + entry.names;
-  get("kin").textContent = isRegion ? "" : [entry.same?.length ? "the same shape as " + entry.same.join(" ") : "", entry.mirrored?.length ? "mirror image of " + entry.mirrored.join(" ") : ""]
-    .filter(Boolean).join(", ");
+  const kin = isRegion ? [] : [["the same shape as ", entry.same], ["mirror image of ", entry.mirrored]].filter(([, names]) => names?.length);
+  get("kin").textContent = kin.map(([words, names]) => words + names.join(" ")).join(", ");
   if (isRegion) {
     const size = studio.lines.box?.size;
     ["boxx", "boxy", "boxz"].forEach((id, axis) => { if (document.activeElement !== get(id)) get(id).value = size ? size[axis] : get(id).value || 3; });
@@ -112,7 +117,7 @@ function drawControls() {
 
 // As many names as are asked for: those that it has, and then free ones.
 function namesFor(entry, least, most) {
-  const own = symbolsOf(entry.names), free = studio.lines.free(DATA.letters.slice(10) + DATA.letters.slice(0, 10)), all = [...own, ...free].slice(0, most);
+  const own = symbolsOf(entry.names), free = freeNames(), all = [...own, ...free].slice(0, most);
   if (all.length < most) { say("There are 62 names for pieces, and not so many are free.", true); return null; }
   return all.slice(0, least).join("") + (least < most ? "+" + all.slice(least).join("") : "");
 }
@@ -171,7 +176,7 @@ function makeRoom() {
 function setCellsOnly(cells) { studio.chosen.cells = cells; written(); }
 
 function copyPiece() {
-  const entry = {...studio.chosen, names: studio.lines.free(DATA.letters.slice(10) + DATA.letters.slice(0, 10))[0], comment: "", line: undefined};
+  const entry = {...studio.chosen, names: freeNames()[0], comment: "", line: undefined};
   if (!entry.names) { say("There are 62 names for pieces, and all are taken.", true); return; }
   if (entry.need !== "any" && entry.need !== "maybe") entry.need = "";
   drawn(studio.lines.add(entry));
@@ -188,11 +193,11 @@ function removePiece() {
 // Adds the lines of a set, each by a name that is free.
 async function addSet(name) {
   const {lines} = await askedFor("set", {name}), told = await askedFor("read", {text: lines.join("\n") + "\n"});
-  const free = studio.lines.free(DATA.letters.slice(10) + DATA.letters.slice(0, 10));
+  const free = freeNames();
   if (told.lines.length > free.length) throw new Error("There are 62 names for pieces, and " + free.length + " are free: the set has " + told.lines.length + ".");
   let first = null;
   for (const read of told.lines) {
-    const left = studio.lines.free(DATA.letters.slice(10) + DATA.letters.slice(0, 10)), names = left.includes(read.names) ? read.names : left[0];
+    const left = freeNames(), names = left.includes(read.names) ? read.names : left[0];
     const entry = studio.lines.add({...read, names, comment: ""});
     first = first || entry;
   }

@@ -128,7 +128,8 @@ def numbers_told(puzzle):
     colours = parity(puzzle) if puzzle.region else None
     dark = sum(sum(place) & 1 for place in puzzle.region)
     if state == "good" and colours and not colours[1]:
-        why.append("coloured like a chessboard the region has %d and %d cells, and no way to lay these pieces makes that difference" % (len(puzzle.region) - dark, dark))
+        why.append("coloured like a chessboard the region has %d and %d cells, and no way to lay these pieces makes that difference" % (
+            len(puzzle.region) - dark, dark))
     return {
         "pieces": [volumes.sure, volumes.most], "any": volumes.any_names, "region": [volumes.least, volumes.region], "headline": said,
         "state": "bad" if why and state else state, "why": why, "notes": notes, "ways": measure.counts, "options": measure.options,

@@ -2,7 +2,6 @@
 // The search: it is begun, watched, stopped, and goes on; what it found is shown as tools/page shows it, and kept.
 
 const search = {now: {state: "idle"}, shown: "", events: null, of: ""};
-const many = number => number.toLocaleString("en");
 
 // A time in words.
 function span(seconds) {
@@ -13,11 +12,13 @@ function span(seconds) {
 }
 
 // A share in percent.
-function shareSaid(share) { return share >= 1e-4 ? "about " + (100 * share).toFixed(share < 0.1 ? 2 : 0) + " %" : "about " + share.toExponential(0).replace("e", " × 10^"); }
+function shareSaid(share) {
+  return "about " + (share >= 1e-4 ? (100 * share).toFixed(share < 0.1 ? 2 : 0) + " %" : share.toExponential(0).replace("e", " × 10^"));
+}
 
 // How far the search is.
 function farSaid({steps, share, left, seconds, found, kind}) {
-  const parts = [many(found) + (found === 1 ? " packing" : " packings"), many(steps) + " steps", span(seconds)];
+  const parts = [counted(found, "packing"), many(steps) + " steps", span(seconds)];
   if (kind === "classes" && steps) parts[0] += " so far";
   if (share !== null) parts.push(shareSaid(share));
   if (left) parts.push(span(left[0]) + " to " + span(left[1]) + " left");
@@ -30,8 +31,9 @@ function outcomeSaid({state, kind, found, of, said, lines}) {
   if (state !== "done") return said;
   if (!found) return "No packing: nothing fits. The whole search was made.";
   if (kind === "first") return "A packing was found.";
-  if (kind === "classes" && of) return many(found) + (found === 1 ? " class" : " classes") + " among " + many(of) + (of === 1 ? " packing" : " packings") + ": what a turn or reflection of the region carries onto one another is one class.";
-  return said || many(found) + (found === 1 ? " packing" : " packings") + (lines.length ? ": these are all." : ".");
+  if (kind === "classes" && of)
+    return counted(found, "class", "classes") + " among " + counted(of, "packing") + ": what a turn or reflection of the region carries onto one another is one class.";
+  return said || counted(found, "packing") + (lines.length ? ": these are all." : ".");
 }
 
 // Shows the state of the search.
@@ -105,7 +107,8 @@ async function showFound() {
   isShowing = true;
   try {
     const {address, shown, of} = await askedFor("show", {title: search.of || studio.title});
-    showFrame(address, shown < of ? "The first " + many(shown) + " of " + many(of) + " that were found" : of === 1 ? "One packing" : many(of) + (search.now.of ? " packings, one of each class" : " packings"));
+    const all = counted(of, "packing") + (search.now.of ? ", one of each class" : "");
+    showFrame(address, shown < of ? "The first " + many(shown) + " of " + many(of) + " that were found" : all);
   } finally { isShowing = false; }
   if (showsAgain) await showFound();
 }
@@ -126,5 +129,7 @@ function listenSearch() {
   get("json").onclick = () => trying(async () => saveFile(await (await ask("json")).blob(), search.of + ".json"));
   get("booklet").onclick = () => trying(async () => openMade((await askedFor("booklet", {title: search.of || studio.title})).address));
   search.events = new EventSource("events");
+  search.events.onerror = () => say(ENDED, true);
+  search.events.onopen = () => { if (get("messagetext").textContent === ENDED) say(""); };
   search.events.onmessage = event => told(JSON.parse(event.data));
 }

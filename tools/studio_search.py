@@ -2,7 +2,6 @@
 program for what each slice found, adds up what it says, and draws the packings by their options."""
 
 import contextlib
-import shutil
 import tempfile
 import threading
 import time
@@ -27,36 +26,40 @@ def one_of_each(runs, text, solved):
 
 
 class Found:
-    """The packings that a search found, as `solve` prints them, in a file without a name; and whether these are all."""
+    """The packings that a search found, as `solve` prints them, in a file without a name; and whether these are all. Others may ask for them while the
+    search finds more."""
 
     def __init__(self, text, most):
         self.text, self.most, self.file, self.many, self.draws, self.is_whole = text, most, tempfile.TemporaryFile(), 0, None, False
+        self.lock = threading.Lock()
 
     def add(self, visits, problem):
         """Draws the packings of a slice; whether no more are kept."""
         for line in visits:
             if self.draws is None:
                 self.draws = Drawing(self.text, problem)
-            self.many += 1
-            rows = ["packing %d" % self.many, *self.draws.rows(numbers(line.split()[1:]))]
-            self.file.write("".join(row + "\n" for row in rows).encode("latin-1"))
+            rows = ["packing %d" % (self.many + 1), *self.draws.rows(numbers(line.split()[1:]))]
+            with self.lock:
+                self.file.write("".join(row + "\n" for row in rows).encode("latin-1"))
+                self.many += 1
             if self.many == self.most:
                 return True
         return False
 
     def listed(self, most=None):
         """The packings, or so many of them, with the last line that `solve` prints, as a new file without a name."""
-        out, taken = tempfile.TemporaryFile(), min(self.many, self.many if most is None else most)
-        self.file.flush()
-        # (read from its start, while the search may write more at its end)
+        out = tempfile.TemporaryFile()
+        with self.lock:
+            self.file.flush()
+            many, left = self.many, self.file.tell()
+        taken = many if most is None else min(many, most)
         with open("/proc/self/fd/%d" % self.file.fileno(), "rb") as file:
-            if taken == self.many:
-                shutil.copyfileobj(file, out)
-            for line in file:
-                if line == b"packing %d\n" % (taken + 1):
+            for line in iter(file.readline, b""):
+                left -= len(line)
+                if left < 0 or line == b"packing %d\n" % (taken + 1):
                     break
                 out.write(line)
-        out.write(b"%s %d\n" % (b"packings" if self.is_whole and taken == self.many else b"first", taken))
+        out.write(b"%s %d\n" % (b"packings" if self.is_whole and taken == many else b"first", taken))
         out.seek(0)
         return out
 
@@ -66,8 +69,9 @@ class Found:
         with self.listed() as solved, one_of_each(runs, self.text, solved) as each:
             text = each.read()
         at = text.rindex(b"packings ")
-        self.file, self.many = tempfile.TemporaryFile(), int(text[at:].split()[1])
-        self.file.write(text[:at])
+        with self.lock:
+            self.file, self.many = tempfile.TemporaryFile(), int(text[at:].split()[1])
+            self.file.write(text[:at])
 
 
 class Search:

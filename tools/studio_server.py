@@ -148,7 +148,7 @@ class Handler(BaseHTTPRequestHandler):
         origin, site = self.headers.get("Origin"), self.headers.get("Sec-Fetch-Site")
         if origin is None and self.command == "POST" or origin not in (None, self.server.origin):
             raise Refused(403, "this server answers to its own pages alone")
-        is_link = self.command == "GET" and self.path == "/" and self.headers.get("Sec-Fetch-Mode") == "navigate" and self.headers.get("Sec-Fetch-Dest") == "document"
+        is_link = (self.command, self.path, *map(self.headers.get, ("Sec-Fetch-Mode", "Sec-Fetch-Dest"))) == ("GET", "/", "navigate", "document")
         if site not in (None, "same-origin", "none") and not is_link:
             raise Refused(403, "this server answers to its own pages alone")
 

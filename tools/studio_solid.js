@@ -17,7 +17,7 @@ function soonSolid(isMoving = false) {
 function pale(colour, share) { return rgb(colour).map(it => it + share * (235 - it)); }
 
 function drawSolid(isMoving) {
-  const canvas = get("solid"), scale = window.devicePixelRatio || 1, width = Math.round(canvas.clientWidth * scale), height = Math.round(canvas.clientHeight * scale);
+  const canvas = get("solid"), scale = window.devicePixelRatio || 1, [width, height] = [canvas.clientWidth, canvas.clientHeight].map(it => Math.round(it * scale));
   if (!width || !height) return;
   if (canvas.width !== width || canvas.height !== height) Object.assign(canvas, {width, height});
   const pen = canvas.getContext("2d"), all = [...cellsNow()].filter(([, how]) => how !== "cut").map(([key, how]) => ({cell: key.split(",").map(Number), how}));
@@ -29,9 +29,8 @@ function drawSolid(isMoving) {
   const shape = new Solid(cells, bodies, 4), faces = shape.faces(body => body >= 0);
   const samples = Math.max(1, Math.min(3, Math.floor(Math.sqrt((isMoving ? 1.5e6 : 5e6) / (width * height)))));
   const paints = [pale(colour, 0), pale(colour, 0.45), pale("#f0d78a", 0), pale("#f0d78a", 0.45)], moves = shape.moves(0);
-  // (all bodies stay where they are: none is pulled apart)
-  const image = drawing.draw(shape, faces, moves, looked, {width, height, samples, paints, line: Math.max(scale, Math.min(2.2 * scale, 0.03 * unitOf(shape, moves, looked, width, height)))});
-  pen.putImageData(image, 0, 0);
+  const line = Math.max(scale, Math.min(2.2 * scale, 0.03 * unitOf(shape, moves, looked, width, height)));
+  pen.putImageData(drawing.draw(shape, faces, moves, looked, {width, height, samples, paints, line}), 0, 0);
 }
 
 // The grid, the solid, and what is said beside them.

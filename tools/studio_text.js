@@ -8,13 +8,19 @@ let DATA = {palette: ["#888888"], distances: [[0]], colours: {}, letters: "A", s
 const studio = {text: "", told: null, lines: new Lines("", []), chosen: null, past: [], future: [], layer: 0, asking: 0, title: "puzzle"};
 const NOTHING = {lines: [], faults: [], colours: {}, region: {required: [], optional: []}, numbers: {ways: {}, why: [], notes: [], pieces: [0, 0], region: [0, 0]}};
 
+const ENDED = "The studio that this page belongs to has ended. What you drew is still here: save it, or start the studio again and open it.";
+
+// A number, and so many things of a kind.
+const many = number => number.toLocaleString("en");
+function counted(number, one, more = one + "s") { return many(number) + " " + (number === 1 ? one : more); }
+
 // Asks the server. What it can't do is an error with its sentence.
 async function ask(name, body = {}, kind = "application/json") {
   let answer;
   try {
     answer = await fetch(name, {method: "POST", headers: {"Content-Type": kind}, body: kind === "application/json" ? JSON.stringify(body) : body});
   } catch {
-    throw new Error("The studio that this page belongs to has ended. What you drew is still here: save it, or start the studio again and open it.");
+    throw new Error(ENDED);
   }
   if (!answer.ok) {
     const told = await answer.json().catch(() => ({}));
@@ -97,8 +103,8 @@ function take(text, told) {
   DATA.colours = told.colours;
   if (before !== "region" && !(before?.isAsked && studio.wanted === undefined)) {
     const {pieces} = studio.lines, names = studio.wanted || before?.names;
-    studio.chosen = pieces.find(it => it.line === before?.line && it.names === names) || pieces.find(it => it.names === names) || pieces.find(it => it.line === before?.line) ||
-      pieces[0] || newPiece();
+    const isThere = it => it.line === before?.line, isNamed = it => it.names === names;
+    studio.chosen = pieces.find(it => isThere(it) && isNamed(it)) || pieces.find(isNamed) || pieces.find(isThere) || pieces[0] || newPiece();
   }
   chooseTyped();
   studio.wanted = undefined;
@@ -155,14 +161,15 @@ function goTo(fault) {
 // What the numbers show: whether all can fit.
 function drawNumbers() {
   const {numbers} = studio.told, box = get("numbers"), missing = studio.told.faults.filter(it => it.is_missing).map(it => it.name);
-  const said = !studio.lines.pieces.length ? "Draw a piece, or add a set of pieces." : missing.includes("EmptyRegion") ? "Now say which region the pieces fill." : numbers.headline;
+  const isEmpty = missing.includes("EmptyRegion"), hasPiece = studio.lines.pieces.length > 0;
+  const said = !hasPiece ? "Draw a piece, or add a set of pieces." : isEmpty ? "Now say which region the pieces fill." : numbers.headline;
   get("headline").textContent = said ? said[0].toUpperCase() + said.slice(1) : "";
   get("headline").className = "headline " + (numbers.state || "");
   box.textContent = "";
   const row = (name, value) => { const pair = make(box, "div"); make(pair, "dt", name); make(pair, "dd", value); };
   const [sure, most] = numbers.pieces, [least, region] = numbers.region;
-  row("Pieces", sure + (most > sure ? " to " + most : "") + (sure === 1 && most === 1 ? " cell" : " cells") + (numbers.any?.length ? ", and any number of " + numbers.any.join(" ") : ""));
-  row("Region", region + " cells" + (region > least ? ", of which " + (region - least) + " may stay empty" : ""));
+  row("Pieces", (most > sure ? sure + " to " : "") + counted(most, "cell") + (numbers.any?.length ? ", and any number of " + numbers.any.join(" ") : ""));
+  row("Region", counted(region, "cell") + (region > least ? ", of which " + (region - least) + " may stay empty" : ""));
   if (region) row("Chessboard", numbers.colours[0] + " and " + numbers.colours[1] + " cells");
   if (numbers.options) row("Ways", numbers.options.toLocaleString("en"));
   list("why", [...numbers.why, ...numbers.large ? ["this is too large for the program: " + numbers.large] : []]);
@@ -186,7 +193,8 @@ function drawAll() {
 
 // What the page notes of what it shows, for tests.
 function note() {
-  Object.assign(document.body.dataset, {pieces: studio.lines.pieces.length, cells: studio.chosen === "region" ? studio.told.numbers.region[1] : studio.chosen?.cells.length || 0,
-    chosen: studio.chosen === "region" ? "region" : studio.chosen?.names || "", layer: studio.layer, faults: studio.told.faults.length, headline: get("headline").textContent,
-    read: studio.lines.text === studio.text ? 1 : 0});
+  const {chosen, told, lines} = studio, isRegion = chosen === "region";
+  Object.assign(document.body.dataset, {pieces: lines.pieces.length, cells: isRegion ? told.numbers.region[1] : chosen?.cells.length || 0,
+    chosen: isRegion ? "region" : chosen?.names || "", layer: studio.layer, faults: told.faults.length, headline: get("headline").textContent,
+    read: lines.text === studio.text ? 1 : 0});
 }

@@ -35,9 +35,9 @@ class Runs:
         """The program with these words."""
         return self.start([itself(), *words], **streams)
 
-    def tool(self, name, words, given, puzzle=None):
+    def tool(self, name, words, given, puzzle=None, begun=None):
         """What a script writes of a file or text that it is given, as a new file without a name, and what it says. `{puzzle}` among its words is a file with
-        the puzzle's text. Where the script ends with a sentence, so does this."""
+        the puzzle's text. `begun` is told the process. Where the script ends with a sentence, so does this."""
         out = tempfile.TemporaryFile()
         with contextlib.ExitStack() as kept:
             said = kept.enter_context(tempfile.TemporaryFile())
@@ -53,6 +53,8 @@ class Runs:
                 passed = (file.fileno(),)
                 words = ["/dev/fd/%d" % passed[0] if it == "{puzzle}" else it for it in words]
             child = self.start([os.path.join(TOOLS, name), *words], stdin=given, stdout=out, stderr=said, pass_fds=passed)
+            if begun:
+                begun(child)
             self.wait(child, name)
             said.seek(0)
             told = said.read().decode("utf-8", "replace").strip()

@@ -20,9 +20,9 @@ KEPT = 200000
 KINDS = {"first": 1, "all": KEPT, "classes": KEPT, "count": 0}
 
 
-def one_of_each(runs, text, solved):
+def one_of_each(runs, text, solved, begun):
     """One packing of each class, as `solve` prints them: a file. This is the one place where classes are made."""
-    return runs.tool("one_of_each", ["--puzzle", "{puzzle}"], solved, text)[0]
+    return runs.tool("one_of_each", ["--puzzle", "{puzzle}"], solved, text, begun)[0]
 
 
 class Found:
@@ -63,10 +63,9 @@ class Found:
         out.seek(0)
         return out
 
-    def classify(self, runs):
+    def classify(self, runs, begun):
         """Keeps one packing of each class."""
-        self.is_whole = True
-        with self.listed() as solved, one_of_each(runs, self.text, solved) as each:
+        with self.listed() as solved, one_of_each(runs, self.text, solved, begun) as each:
             text = each.read()
         at = text.rindex(b"packings ")
         with self.lock:
@@ -80,7 +79,7 @@ class Search:
     def __init__(self, runs, minutes):
         self.runs, self.minutes, self.changed, self.number = runs, minutes, threading.Condition(), 0
         self.thread = self.process = self.sliced = self.found = None
-        self.is_stopping, self.kind, self.now = False, "", {"state": "idle"}
+        self.turn, self.is_stopping, self.is_over, self.kind, self.now = threading.RLock(), False, False, "", {"state": "idle"}
 
     def told(self):
         """What the page shows of the search, and its number: it rises with each change."""
@@ -96,17 +95,19 @@ class Search:
 
     def begin(self, kind, text):
         """Begins a search in the place of the one before."""
-        self.stop()
-        self.kind, self.sliced, self.most = kind, None, FIRST
-        self.found = Found(problem_text(text), KINDS[kind])
-        self.tell(state="running", kind=kind, found=0, of=None, steps=0, seconds=0, share=None, left=None, said="", lines=[])
-        self.run()
+        with self.turn:
+            self.stop()
+            self.kind, self.sliced, self.most, self.is_over = kind, None, FIRST, False
+            self.found = Found(problem_text(text), KINDS[kind])
+            self.tell(state="running", kind=kind, found=0, of=None, steps=0, seconds=0, share=None, left=None, said="", lines=[])
+            self.run()
 
     def go_on(self):
         """Goes on with a search that was stopped."""
-        if self.now["state"] == "paused":
-            self.tell(state="running", said="")
-            self.run()
+        with self.turn:
+            if self.now["state"] == "paused":
+                self.tell(state="running", said="")
+                self.run()
 
     def run(self):
         """Begins the thread, with the time that there is for it."""
@@ -118,19 +119,24 @@ class Search:
 
     def stop(self):
         """Stops the search, and waits until it is at rest. What the slice under way found is lost, and comes again where the search goes on."""
-        self.is_stopping = True
-        while self.thread and self.thread.is_alive():
-            process = self.process
-            if process and process.poll() is None:
-                self.runs.kill(process)
-            self.thread.join(0.05)
+        with self.turn:
+            self.is_stopping = True
+            while self.thread and self.thread.is_alive():
+                process = self.process
+                if process and process.poll() is None:
+                    self.runs.kill(process)
+                self.thread.join(0.05)
+
+    def begun(self, process):
+        """The process that `stop` ends."""
+        self.process = process
+        return process
 
     def launch(self, words, **streams):
-        """The program, as the process that `stop` ends."""
+        """The program."""
         if self.is_stopping:
             stop("stopped")
-        self.process = self.runs.program(words, **streams)
-        return self.process
+        return self.begun(self.runs.program(words, **streams))
 
     def work(self):
         """All slices up to the end, or what ends the search before."""
@@ -139,10 +145,11 @@ class Search:
                 sliced = Sliced("count", self.found.text, self.launch)
                 sliced.begin()
                 self.sliced, self.estimate = sliced, Estimate(sliced.snapshot.problem)
-            while not self.step():
+            while not self.is_over:
+                self.is_over = self.step()
                 if self.is_stopping:
                     stop("stopped")
-                if time.monotonic() > self.until:
+                if time.monotonic() > self.until and not self.is_over:
                     self.tell(state="paused", said="The search took %d minutes, and waits: go on, or leave it." % self.minutes)
                     return
             self.end()
@@ -185,7 +192,7 @@ class Search:
         if self.kind == "classes" and is_end and self.found.many:
             many = self.found.many
             self.tell(said="Looking which packings are alike ...")
-            self.found.classify(self.runs)
+            self.found.classify(self.runs, self.begun)
             self.tell(found=self.found.many, of=many)
         self.found.is_whole = is_end and (self.kind != "first" or not self.found.many)
         self.tell(state="done", said=said, lines=sums.lines("count", self.sliced.snapshot.options) if is_end else [], left=None)

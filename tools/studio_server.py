@@ -140,6 +140,9 @@ class Handler(BaseHTTPRequestHandler):
             self.send(json.dumps({"said": str(why)}).encode(), "application/json", 422)
         except (BrokenPipeError, ConnectionError, TimeoutError):
             self.close_connection = True
+        except (OSError, ValueError, LookupError, TypeError, AttributeError, MemoryError) as why:
+            self.close_connection = True
+            self.send(json.dumps({"said": "this failed in the studio: %s %s" % (type(why).__name__, why)}).encode(), "application/json", 500)
 
     def check(self):
         """A request has to be for this server, by its own page or by somebody who typed its address; a link alone may lead from elsewhere to `/`."""

@@ -3,11 +3,13 @@
 PREFIX = /usr/local
 ZSH_FUNCTIONS = $(PREFIX)/share/zsh/site-functions
 # The scripts that are installed, each as the command polylab-NAME; those of dev/ are for this checkout.
-COMMANDS = answer check_packings convert count_packings draw_packings explain invent join one_of_each page parts pieces run session slices slurm_array unique
+COMMANDS = answer check_packings convert count_packings draw_packings explain invent join one_of_each page parts pieces run session slices slurm_array studio unique
 # What these read from beside them.
 PARTS = burrtools.py cells.py classes.py colours.py copies.py covers.py drawing.py frame.py numbering.py packings.py polylab.py puzzles.py searched.py snapshots.py solids.py texts.py times.py \
-	page.css page_common.js page_packings.js page_search.js page_solid.js \
-	files.py fitting.py shares.py
+	page.css page_common.js page_packings.js page_search.js page_solid.js page_turn.js \
+	faults.py files.py fitting.py pictures.py polycubes.py shares.py sheets.py sliced.py ways.py \
+	studio_desk.py studio_files.py studio_puzzle.py studio_runs.py studio_search.py studio_server.py studio.css studio.html studio_link.html \
+	studio.js studio_address.js studio_files.js studio_grid.js studio_lines.js studio_link.js studio_pieces.js studio_search.js studio_solid.js studio_text.js
 SHARE = $(DESTDIR)$(PREFIX)/share
 LIB = $(DESTDIR)$(PREFIX)/lib/polylab
 # What behind the gate is --all-there: a crate whose tests aren't built is then a fault, and else skipped.
@@ -34,11 +36,11 @@ CHECKS_OF_TEXTS = check-names check-lemmas check-edits check-waiting check-sente
 
 .PHONY: all quick help scripts build ci layout wrong-bodies bench install uninstall dist gallery gallery-long $(CHECKS_OF_TEXTS) check-frame check-install \
 	check-dist check-tools check-texts check-refused check-rows check-sessions check-parts check-docs check-words check-completions check-page \
-	check-statuses check-memory check-memory-all
+	check-studio check-statuses check-memory check-memory-all
 
 # All that follows but gallery-long, check-memory-all, bench, ci and wrong-bodies: some ten minutes once the program is built.
 all: $(CHECKS_OF_TEXTS) check-frame check-install check-dist build gallery check-tools check-texts check-refused check-rows check-sessions check-parts \
-	check-docs check-words check-completions check-page check-statuses check-memory
+	check-docs check-words check-completions check-page check-studio check-statuses check-memory
 
 # The checks that a landing has to pass after the gate: some three minutes once the program is built. Without check-edits while records are
 # due of wrong bodies that are tried beside the gate (docs/GATE.md).
@@ -176,6 +178,10 @@ check-parts: build
 # Pages of packings and of sessions, in headless Chromium where it is here, show what they should: minutes.
 check-page: build
 	@dev/check_page
+
+# The studio refuses whoever isn't its page, and a newcomer's steps in headless Chromium, where it is here, come to 240 Soma cubes: minutes.
+check-studio: build
+	@dev/check_studio
 
 # Each command line that a document shows prints what is shown there: a minute.
 check-docs: build

@@ -1,4 +1,4 @@
-"""Drives a headless Chromium through its debugging pipe, for dev/check_page. Plain Python, NOT PROVED."""
+"""Drives a headless Chromium through its debugging pipe, for dev/check_page and dev/check_studio. Plain Python, NOT PROVED."""
 
 import base64
 import json
@@ -66,6 +66,46 @@ class Browser:
                 if "error" in answer:
                     raise ValueError("%s: %s" % (method, answer["error"]["message"]))
                 return answer["result"]
+
+    def tab(self, address):
+        """Another tab at an address; whoever wants to ask it something sets `session`."""
+        before, self.session = self.session, None
+        target = self.ask("Target.createTarget", url=address)["targetId"]
+        session = self.ask("Target.attachToTarget", targetId=target, flatten=True)["sessionId"]
+        self.session = before
+        return target, session
+
+    def ask_alone(self, method, **words):
+        """The answer to a command that is of no page."""
+        before, self.session = self.session, None
+        try:
+            return self.ask(method, **words)
+        finally:
+            self.session = before
+
+    def within(self, session, text):
+        """The value of an expression in another tab."""
+        before, self.session = self.session, session
+        try:
+            return self.value(text)
+        finally:
+            self.session = before
+
+    def tap(self, selector):
+        """Taps the middle of an element with a finger."""
+        x, y = self.middle(selector)
+        self.ask("Input.synthesizeTapGesture", x=x, y=y)
+
+    def middle(self, selector):
+        """Where the middle of an element is, which is brought into sight first."""
+        return self.value("(() => { const it = document.querySelector(%s); it.scrollIntoView({block: 'center', behavior: 'instant'}); const box = it.getBoundingClientRect();"
+                          " return [box.left + box.width / 2, box.top + box.height / 2]; })()" % json.dumps(selector))
+
+    def click(self, selector):
+        """Clicks the middle of an element."""
+        x, y = self.middle(selector)
+        for kind in ("mouseMoved", "mousePressed", "mouseReleased"):
+            self.ask("Input.dispatchMouseEvent", type=kind, x=x, y=y, button="none" if kind == "mouseMoved" else "left", clickCount=0 if kind == "mouseMoved" else 1)
 
     def look(self, width, height, scale=1, dark=False, touch=False):
         """So large a window, so many points for each of the page's, light or dark."""

@@ -1,13 +1,14 @@
-"""Problems in the files of BurrTools, for tools/convert. Plain Python, NOT PROVED; it trusts that a file means what BurrTools means by it, and not
+"""Problems in the files of BurrTools, read and written, for tools/convert. Plain Python, NOT PROVED; it trusts that a file means what BurrTools means by it, and not
 that it is small: what is read is bounded as it is read."""
 
 import gzip
+import html
 import io
 import re
 import xml.parsers.expat
 import zlib
 
-from cells import moved, so_many, turned
+from cells import least_corner, moved, shifted, size_of, so_many, turned
 from frame import escaped, stop
 from puzzles import LETTERS
 
@@ -309,3 +310,33 @@ def read(data, name, tell):
     if not pieces:
         stop("the problem has no piece")
     return pieces, region, [re.sub(r"[^ -~]", "?", it[:200]) for it in comments]
+
+
+def voxel(name, filled, spare=()):
+    """The element of a shape."""
+    marks = {**dict.fromkeys(filled, "#"), **dict.fromkeys(spare, "+")}
+    low = least_corner(marks)
+    wide, high, deep = size_of(shifted(marks, low, (0, 0, 0)))
+    text = "".join(marks.get((x + low[0], y + low[1], z + low[2]), "_") for z in range(deep) for y in range(high) for x in range(wide))
+    return '<voxel x="%d" y="%d" z="%d" type="0" name="%s">%s</voxel>' % (wide, high, deep, html.escape(name), text)
+
+
+def number_of(puzzle, need, names, cells):
+    """How often the piece of a line is laid at least and at most."""
+    sure, _, spare = names.partition("+")
+    if need == "any":
+        return 0, len(puzzle.region) // len(cells)
+    return (0, 1) if need == "maybe" else (len(sure), len(sure) + len(spare))
+
+
+def written(puzzle, name, tell):
+    """A puzzle as the text of an .xmpuzzle file, with one problem."""
+    shapes, counts = [voxel("region", puzzle.required, puzzle.optional)], []
+    for number, need, names, mirror, cells in puzzle.said:
+        least, most = number_of(puzzle, need, names, cells)
+        shapes.append(voxel(names.partition("+")[0][:1] or names[1], cells))
+        counts.append('<shape id="%d" %s/>' % (len(counts) + 1, 'count="%d"' % least if least == most else 'min="%d" max="%d"' % (least, most)))
+        if mirror:
+            tell("line %d: BurrTools reflects no piece, so packings with the mirror image of %s are left out there" % (number, names))
+    return '<?xml version="1.0"?>\n<puzzle version="2">\n<gridType type="0"/>\n<colors/>\n<shapes>\n%s\n</shapes>\n<problems>\n<problem name="%s" state="0">\n' \
+        '<shapes>\n%s\n</shapes>\n<result id="0"/>\n<bitmap/>\n</problem>\n</problems>\n</puzzle>\n' % ("\n".join(shapes), html.escape(name), "\n".join(counts))

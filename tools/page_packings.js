@@ -234,39 +234,9 @@ const thumbs = {
   },
 };
 
-function tilted(by) { looked.tilt = Math.max(-Math.PI / 2, Math.min(Math.PI / 2, looked.tilt + by)); }
-function zoomed(by) { looked.zoom = Math.max(0.2, Math.min(8, looked.zoom * by)); }
-const ACTS = {
-  left: () => { looked.turn -= 0.1; }, right: () => { looked.turn += 0.1; }, up: () => tilted(-0.1), down: () => tilted(0.1),
-  larger: () => zoomed(1.1), smaller: () => zoomed(1 / 1.1), first: () => Object.assign(looked, START),
-};
-const KEYS = {ArrowLeft: "left", ArrowRight: "right", ArrowUp: "up", ArrowDown: "down", "+": "larger", "=": "larger", "-": "smaller", "0": "first"};
-
-// One finger or the mouse turns; two fingers make it larger and smaller.
-const held = new Map();
-// How far two fingers are from each other.
-function spread() { const [one, other] = [...held.values()]; return Math.hypot(one.x - other.x, one.y - other.y); }
-// A finger, or the mouse, moved.
-function moved(event) {
-  const was = held.get(event.pointerId);
-  if (!was) return;
-  const before = held.size === 2 ? spread() : 0, now = {x: event.clientX, y: event.clientY};
-  held.set(event.pointerId, now);
-  if (held.size === 2 && before > 0) zoomed(spread() / before);
-  if (held.size === 1) { looked.turn += (now.x - was.x) / 150; tilted((now.y - was.y) / 150); }
-  soon(true);
-}
-
 function listen() {
-  for (const id in ACTS) get(id).onclick = () => { ACTS[id](); soon(); };
-  view.onkeydown = event => { if (KEYS[event.key]) { event.preventDefault(); ACTS[KEYS[event.key]](); soon(true); } };
-  view.onpointerdown = event => {
-    held.set(event.pointerId, {x: event.clientX, y: event.clientY});
-    try { view.setPointerCapture(event.pointerId); } catch { /* (a pointer that is gone) */ }
-  };
-  view.onpointermove = moved;
-  view.onpointerup = view.onpointercancel = event => held.delete(event.pointerId);
-  view.addEventListener("wheel", event => { event.preventDefault(); zoomed(event.deltaY < 0 ? 1.1 : 1 / 1.1); soon(true); }, {passive: false});
+  const acts = turnable(view, looked, () => START, soon);
+  for (const id in acts) get(id).onclick = () => { acts[id](); soon(); };
   get("number").onchange = event => { choose(Math.floor(+event.target.value) - 1); event.target.value = packing + 1; };
   get("back").onclick = () => stepBy(-1);
   get("next").onclick = () => stepBy(1);

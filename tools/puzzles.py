@@ -25,11 +25,12 @@ KINDS = {
 
 class Puzzle(Reader):
     """Pieces: a list. Equal: the names of the pieces of each line `copies`. Required and optional: sets of cells (x, y, z). Named: of each
-    line that says the region its number, its first word (`maybe` for `maybe cells`) and its cells."""
+    line that says the region its number, its first word (`maybe` for `maybe cells`) and its cells. Said: of each line of pieces its number, whether it
+    begins with `maybe` or `any`, its names as they stand there, whether they may be reflected, and its cells."""
 
     def __init__(self, text, faults=None):
         super().__init__(faults)
-        self.pieces, self.equal, self.filled, self.spare, self.cut, self.named = [], [], set(), set(), set(), []
+        self.pieces, self.equal, self.filled, self.spare, self.cut, self.named, self.said = [], [], set(), set(), set(), [], []
         self.has_box = self.is_large = False
         self.read_lines(text, self.read)
         self.required = self.filled - self.spare - self.cut
@@ -94,6 +95,7 @@ class Puzzle(Reader):
                 if name in names[:at] or any(name in piece.symbols for piece in self.pieces):
                     self.stop("RepeatedPiece", "a piece %s came before" % name, word)
         cells = self.read_cells(rest[1:], True)
+        self.said.append((self.number, need, word[0], mirror, cells))
         if need == "any":
             self.pieces.append(Piece(word[0][0], cells, need, mirror, word[0]))
         else:

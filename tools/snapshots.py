@@ -29,12 +29,24 @@ def ready():
     return found
 
 
-def asked(words, text):
+def itself():
+    """The program that `ready` found: that of a checkout was built by then, and needn't look at its sources each time that it is called."""
+    found = ready()
+    built = os.path.join(TOP, "crates", "polylab", "out", "polylab")
+    return built if found == os.path.join(TOP, "polylab") and os.path.exists(built) else found
+
+
+def launched(words, **streams):
+    """The program with these words, as a process."""
+    return subprocess.Popen([ready(), *words], **streams)
+
+
+def asked(words, text, launch=launched):
     """The lines that the program writes of a text, one by one, each with its end; its refusal ends the script. A character stands for each byte."""
     with tempfile.TemporaryFile() as told, tempfile.TemporaryFile() as said:
         told.write(text.encode("latin-1", "replace"))
         told.seek(0)
-        with subprocess.Popen([ready(), *words], stdin=told, stdout=subprocess.PIPE, stderr=said) as ran:
+        with launch(words, stdin=told, stdout=subprocess.PIPE, stderr=said) as ran:
             try:
                 for line in ran.stdout:
                     yield line.decode("latin-1")
@@ -47,9 +59,9 @@ def asked(words, text):
             stop("`polylab %s` ended with status %d%s" % (" ".join(words), ran.returncode, ": " + why if why else ""))
 
 
-def ask(words, text):
+def ask(words, text, launch=launched):
     """All that the program writes of a text."""
-    return "".join(asked(words, text))
+    return "".join(asked(words, text, launch))
 
 
 def problem_text(text):

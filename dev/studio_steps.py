@@ -1,0 +1,317 @@
+"""The steps of somebody who opens the studio for the first time, in a headless Chromium. For dev/check_studio. Plain Python, NOT PROVED; it trusts what the
+page notes of what it shows."""
+
+import contextlib
+import http.server
+import json
+import os
+import threading
+import time
+
+from studio_process import PATIENCE, need
+
+# The Soma pieces as they are drawn: the cells of each layer.
+SOMA = {"V": [(0, 0, 0), (1, 0, 0), (0, 1, 0)], "L": [(0, 0, 0), (1, 0, 0), (2, 0, 0), (0, 1, 0)], "T": [(0, 0, 0), (1, 0, 0), (2, 0, 0), (1, 1, 0)],
+    "Z": [(0, 0, 0), (1, 0, 0), (1, 1, 0), (2, 1, 0)], "A": [(0, 0, 0), (1, 0, 0), (0, 1, 0), (0, 1, 1)], "B": [(0, 0, 0), (1, 0, 0), (0, 1, 0), (1, 0, 1)],
+    "P": [(0, 0, 0), (1, 0, 0), (0, 1, 0), (0, 0, 1)]}
+
+
+class Page:
+    """The studio's page in a browser, and a folder for what it saves."""
+
+    def __init__(self, browser, studio, saves):
+        self.browser, self.studio, self.saves = browser, studio, saves
+        os.makedirs(saves, exist_ok=True)
+        browser.ask("Browser.setDownloadBehavior", behavior="allow", downloadPath=saves)
+
+    def open(self, address=None):
+        self.browser.open(address or self.studio.address)
+        self.until("document.body.dataset.begun === '1'", "the page begins")
+
+    def value(self, text):
+        return self.browser.value(text)
+
+    def until(self, holds, what):
+        """Waits until an expression is true in the page."""
+        end = time.monotonic() + PATIENCE
+        while not self.value(holds):
+            need(time.monotonic() < end, "it doesn't come to be: %s (%s, %s)" % (what, self.browser.notes(), self.value("get('messagetext').textContent")))
+            time.sleep(0.1)
+        need(not self.browser.faults, "%s: %s" % (what, self.browser.faults))
+
+    def settled(self):
+        """Waits until what was drawn or typed is read."""
+        self.until("studio.told.faults !== undefined && studio.lines.text === studio.text && document.body.dataset.read === '1'", "the text is read")
+
+    def press(self, name):
+        """Clicks an element by its id."""
+        self.browser.click("#" + name)
+
+    def cell(self, x, y):
+        """Clicks a cell of the grid."""
+        self.browser.click("#grid tr:nth-child(%d) td:nth-child(%d)" % (y + 2, x + 2))
+
+    def layer(self, z):
+        self.browser.click("#layertabs button:nth-child(%d)" % (z + 1))
+
+    def type(self, name, words):
+        """Types into a box in place of what stands there."""
+        self.value("(get(%s).focus(), get(%s).select())" % (json.dumps(name), json.dumps(name)))
+        self.browser.ask("Input.insertText", text=words)
+
+    def text(self):
+        return self.value("get('text').value")
+
+    def says(self, words, what):
+        """Waits until the page says something."""
+        self.until("get('messagetext').textContent.includes(%s)" % json.dumps(words), what)
+
+    def saved(self, end):
+        """The bytes of the file that the page saves next, whose name has this end."""
+        until = time.monotonic() + PATIENCE
+        while time.monotonic() < until:
+            for name in os.listdir(self.saves):
+                if name.endswith(end):
+                    path = os.path.join(self.saves, name)
+                    with open(path, "rb") as file:
+                        data = file.read()
+                    os.remove(path)
+                    return data
+            time.sleep(0.1)
+        return need(False, "no file %s is saved" % end)
+
+    def drop(self, script):
+        """Drops a file that a script makes."""
+        self.value("(() => { const data = new DataTransfer(); data.items.add(%s); window.dispatchEvent(new DragEvent('drop', {dataTransfer: data, bubbles: true, cancelable: true})); })()" % script)
+
+
+def check_drawn(page):
+    """The Soma cube is drawn from nothing by clicks, and its numbers are told meanwhile."""
+    page.open()
+    for number, (name, cells) in enumerate(SOMA.items()):
+        if number:
+            page.press("newpiece")
+        for x, y, z in cells:
+            if page.value("studio.layer") != z:
+                page.layer(z)
+            page.cell(x, y)
+        page.type("piecename", name)
+        page.browser.press("Enter")
+        page.settled()
+        need(page.value("studio.lines.pieces.length") == number + 1, "after %s there are %s pieces" % (name, page.value("studio.lines.pieces.length")))
+    page.press("region")
+    for axis, size in zip("xyz", (3, 3, 2)):
+        page.type("box" + axis, str(size))
+    page.press("setbox")
+    page.until("document.body.dataset.headline === '9 cells too many'", "9 cells too many")
+    page.type("boxz", "3")
+    page.press("setbox")
+    page.until("document.body.dataset.headline === 'The cells fit exactly'", "the cells fit")
+    wanted = {(name, *sorted(cells)) for name, cells in SOMA.items()}
+    drawn = {(names, *sorted(map(tuple, cells))) for names, cells in page.value("studio.lines.pieces.map(it => [it.names, it.cells])")}
+    need(drawn == wanted, "what was drawn is %s" % page.text())
+    need(page.value("get('kin').textContent") == "" and page.value("(choosePiece(studio.lines.pieces.find(it => it.names === 'A')), get('kin').textContent)") == "mirror image of B",
+        "mirror images aren't told")
+    need(page.value("[studio.told.numbers.ways.V, studio.told.numbers.options].join()") == "144,688", "the ways are others")
+    return "the Soma cube, drawn from nothing"
+
+
+def check_found(page):
+    """Its 240 classes are found and shown, in three dimensions and layer by layer."""
+    page.browser.click("[data-kind=classes]")
+    page.until("document.body.dataset.search === 'done'", "the search is done")
+    need(page.value("get('outcome').textContent").startswith("240 classes among 11,520 packings"), "it says: %s" % page.value("get('outcome').textContent"))
+    page.until("get('frame').contentDocument?.body?.dataset.total === '240'", "240 packings are shown")
+    notes = page.value("({...get('frame').contentDocument.body.dataset})")
+    need((notes["cells"], notes["pieces"]) == ("27", "7"), "what is shown is %s" % notes)
+    page.browser.click("[data-kind=count]")
+    page.until("document.body.dataset.search === 'done' && document.body.dataset.found === '11520'", "11,520 are counted")
+    need(page.value("get('figures').textContent").startswith("packings 11520\noptions 688\nsteps 1991327\n"), "the lines are %s" % page.value("get('figures').textContent"))
+    page.press("json")
+    need(json.loads(page.saved(".json"))["packings"] == 11520, "the JSON is another")
+    return "240 of 11,520, shown"
+
+
+def check_kept(page):
+    """The puzzle is saved, loaded, undone, and comes back by its address; packings and solids are saved, and sheets are made."""
+    text = page.text()
+    page.press("save")
+    data = page.saved(".puzzle")
+    need(data.decode() == text, "what was saved is %s" % data)
+    page.press("fresh")
+    page.settled()
+    need(page.text() == "", "a new puzzle has %s" % page.text())
+    path = os.path.join(page.saves, "kept")
+    with open(path, "wb") as file:
+        file.write(data)
+    document = page.browser.ask("DOM.getDocument")["root"]["nodeId"]
+    page.browser.ask("DOM.setFileInputFiles", files=[path], nodeId=page.browser.ask("DOM.querySelector", nodeId=document, selector="#file")["nodeId"])
+    page.until("get('text').value === %s" % json.dumps(text), "the file is opened")
+    os.remove(path)
+    page.press("undo")
+    page.until("get('text').value === ''", "undo")
+    page.press("redo")
+    page.until("get('text').value === %s" % json.dumps(text), "redo")
+    page.settled()
+    page.until("location.hash.startsWith('#puzzle=')", "the address holds the puzzle")
+    page.value("location.reload()")
+    page.until("window.studio === undefined && typeof studio !== 'undefined' && document.body?.dataset.begun === '1' && get('text').value === %s" % json.dumps(text), "the page is loaded again")
+    page.press("burrtools")
+    need(page.saved(".xmpuzzle").count(b"<voxel") == 8, "there is no file of BurrTools")
+    page.press("solids")
+    page.press("makesolids")
+    need(page.saved(".zip").count(b"piece-V.stl") == 2, "there are no solids")
+    page.browser.click("[data-kind=first]")
+    page.until("document.body.dataset.search === 'done'", "a packing")
+    page.press("solved")
+    need(page.saved(".solved").startswith(b"packing 1\n"), "the packings aren't saved")
+    for name in ("sheet", "booklet"):
+        made = page.value("(async () => (await askedFor(%s, {text: studio.text, title: '<script>1</script>'})).address)()" % json.dumps(name))
+        status, html, headers = page.studio.ask("GET", "/%s/%s" % (page.studio.secret, made))
+        need(status == 200 and b"<svg" in html and b"<script>" not in html and "script-src 'none'" in headers["Content-Security-Policy"], "the %s: %s" % (name, html[:200]))
+    return "saved, loaded, undone, and made"
+
+
+def check_text(page):
+    """What is typed is drawn; a text is broken, its fault is marked, and it is mended; nothing else is lost."""
+    text = page.text()
+    page.type("text", text.replace("piece L 000", "peice L 000"))
+    page.until("document.body.dataset.faults === '1'", "a fault")
+    said = page.value("get('faults').textContent")
+    need("column 1" in said and "is `piece` meant?" in said, "the fault is told: %s" % said)
+    need(page.value("document.querySelector('#marks mark').textContent") == "peice", "the fault isn't marked")
+    need(page.value("studio.lines.pieces.length") == 6 and page.value("document.querySelector('[data-kind=all]').disabled"), "a broken text is searched, or more is lost")
+    page.browser.click("#faults button")
+    page.browser.ask("Input.insertText", text="piece")
+    page.until("document.body.dataset.faults === '0' && studio.lines.pieces.length === 7", "the text is mended")
+    need(page.text() == text, "the mended text is %s" % page.text())
+    page.type("text", "# <img src=x onerror=alert(1)>\npiece A 000 <b>\n")
+    page.until("document.body.dataset.faults === '1'", "a text of HTML")
+    need(page.value("document.querySelectorAll('#marks img, #faults b, #faults img').length") == 0, "a text is taken for HTML")
+    page.type("text", "any mirror piece Yab 000 100 200 300 110 # colour Y #123456\ncopies CD+E 000\nmaybe piece F 000 100\nbox 3 2 1\ncells 300\nmaybe cells 310\ncut 000\n")
+    page.until("document.body.dataset.faults === '0' && studio.lines.pieces.length === 3", "all kinds of lines")
+    need(page.value("studio.lines.pieces.map(it => it.names + usedOf(it)).join()") == "Yabany number, reflected too,CD+E2 to 3 copies,For left out", "the kinds are told otherwise")
+    need(page.value("studio.lines.entries.every(it => lineOf(it) === studio.text.split('\\n')[it.line - 1])"), "a line is written otherwise than it was read")
+    page.type("text", text)
+    page.settled()
+    return "a text that is broken, and mended"
+
+
+def check_stopped(page):
+    """A long search tells how far it is, is stopped, goes on, and is stopped by another."""
+    soma, path = page.text(), "examples/first/bricks-6x6x6.puzzle"
+    with open(path, encoding="ascii") as file:
+        page.type("text", file.read())
+    page.settled()
+    page.browser.click("[data-kind=count]")
+    page.until("document.body.dataset.search === 'running' && search.now.steps > 0", "a long search")
+    page.press("stop")
+    page.until("document.body.dataset.search === 'paused'", "it is stopped")
+    need(not page.studio.left(), "a search that was stopped leaves %s" % page.studio.left())
+    steps = page.value("search.now.steps")
+    page.press("go")
+    page.until("search.now.steps > %d" % steps, "it goes on")
+    need("steps" in page.value("get('far').textContent"), "it isn't told how far the search is: %s" % page.value("get('far').textContent"))
+    page.press("stop")
+    page.until("document.body.dataset.search === 'paused'", "it is stopped again")
+    page.type("text", soma)
+    page.settled()
+    return "a long search, stopped"
+
+
+def check_strange(page):
+    """What can't be opened gets a sentence, and what was drawn stays."""
+    text = page.text()
+    for script, said in (("new File([new Blob(Array(100).fill(new Uint8Array(1 << 20)))], 'large.puzzle')", "105 MB"),
+            ("new File([new Uint8Array([137, 80, 78, 71, 13, 10, 26, 10, 0])], 'cat.png')", "This is a picture"), ("new File([], 'empty')", "empty"),
+            ("new File(['PK\\x03\\x04'], 'a.zip')", "packed")):
+        page.drop(script)
+        page.says(said, "a sentence of %s" % script)
+        need(page.text() == text, "after %s the puzzle is another" % script)
+    page.drop("new File(['piece A 000 100\\nbox 2 1 1\\n'], 'two.puzzle')")
+    page.until("get('text').value === 'piece A 000 100\\nbox 2 1 1\\n' && get('title').value === 'two'", "a text that is dropped")
+    page.settled()
+    page.press("undo")
+    page.until("get('text').value === %s" % json.dumps(text), "the puzzle before comes back")
+    return "files of other kinds, and 100 MB"
+
+
+HOSTILE = """<!doctype html><title>hostile</title><script>
+const there = %s, secret = %s, said = [];
+async function tries(name, act) { try { said.push(name + ": " + await act()); } catch (why) { said.push(name + ": refused"); } }
+const json = {method: "POST", headers: {"Content-Type": "application/json"}, body: JSON.stringify({kind: "count", text: "piece A 000\\nbox 1 1 1\\n"})};
+(async () => {
+  for (const path of ["/", "/guess/", "/" + secret + "/"]) await tries("read " + path, async () => (await fetch(there + path)).status);
+  for (const path of ["/guess/search", "/" + secret + "/search"]) {
+    await tries("post", async () => (await fetch(there + path, json)).status);
+    await tries("post without cors", async () => (await fetch(there + path, {...json, mode: "no-cors", headers: {"Content-Type": "text/plain"}})).type);
+  }
+  await tries("events", () => new Promise((done, fail) => { const it = new EventSource(there + "/" + secret + "/events"); it.onopen = () => done("told"); it.onerror = fail; }));
+  const frame = document.createElement("iframe");
+  frame.src = there + "/" + secret + "/";
+  document.documentElement.append(frame);
+  await new Promise(done => { frame.onload = done; setTimeout(done, 3000); });
+  await tries("frame", () => frame.contentWindow.document.title);
+  const other = new BroadcastChannel("polylab studio");
+  other.postMessage({text: "piece Z 000\\n", name: "hostile"});
+  document.title = JSON.stringify(said);
+})();
+</script>"""
+
+
+def check_hostile(page):
+    """Another page, in another tab, gets nothing out of the studio and does nothing to it, even if it knew the secret."""
+    text, state, origin = page.text(), page.value("JSON.stringify(search.now)"), "http://127.0.0.1:%d" % page.studio.port
+    html = (HOSTILE % (json.dumps(origin), json.dumps(page.studio.secret))).encode()
+
+    class Hostile(http.server.BaseHTTPRequestHandler):
+        def do_GET(self):
+            self.send_response(200)
+            self.send_header("Content-Type", "text/html")
+            self.end_headers()
+            self.wfile.write(html)
+
+        def log_message(self, *_):
+            pass
+
+    server = http.server.ThreadingHTTPServer(("127.0.0.1", 0), Hostile)
+    threading.Thread(target=server.serve_forever, daemon=True).start()
+    try:
+        target, session = page.browser.tab("http://127.0.0.1:%d/" % server.server_port)
+        until, title = time.monotonic() + PATIENCE, ""
+        while not title.startswith("[") and time.monotonic() < until:
+            time.sleep(0.2)
+            with contextlib.suppress(ValueError):
+                title = page.browser.within(session, "document.title") or ""
+        said = json.loads(title or "[]")
+        need(len(said) == 9 and all(it.endswith(": refused") or it == "post without cors: opaque" for it in said), "a hostile page gets: %s" % said)
+        need(page.text() == text and page.value("JSON.stringify(search.now)") == state, "a hostile page does something")
+        need(page.value("get('message').hidden || !get('messagetext').textContent.includes('hostile')"), "a hostile page says something in the studio")
+        page.browser.ask_alone("Target.closeTarget", targetId=target)
+    finally:
+        server.shutdown()
+        server.server_close()
+    return "a hostile page"
+
+
+def check_link(page):
+    """A link holds the puzzle: clicked in the same browser it brings it to the studio, which asks first."""
+    text = page.text()
+    page.press("link")
+    page.until("get('linkdialog').open && get('linktext').value", "a link")
+    link = page.value("get('linktext').value")
+    need(link.startswith("http://127.0.0.1:8479/#puzzle="), "the link is %s" % link)
+    page.value("get('linkdialog').close()")
+    page.press("fresh")
+    page.settled()
+    target, _ = page.browser.tab("http://127.0.0.1:%d/#%s" % (page.studio.port, link.partition("#")[2]))
+    page.says("A link brought the puzzle", "a link that was clicked")
+    need(page.text() == "", "a link opens a puzzle by itself")
+    page.browser.ask_alone("Target.closeTarget", targetId=target)
+    page.press("messageyes")
+    page.until("get('text').value === %s" % json.dumps(text), "the puzzle of the link")
+    page.value("openLink('http://127.0.0.1:8479/#puzzle=abc').catch(why => say(why.message))")
+    page.says("spoilt", "a link that is spoilt")
+    page.value("say('')")
+    page.settled()
+    return "a link that holds the puzzle"

@@ -45,7 +45,7 @@ sent_sum m d v = same_point _ _ _ _ _ _ (row_sum m.from_x m.minus_x v d) (row_su
 
 -- ---- one after the other, and back
 
-one_after : (a b c : ℕ) → IsComposed a b c → (d e p : Point) → translated d (sent_by a (translated e (sent_by b p))) ≡ translated (translated d (sent_by a e)) (sent_by c p)
+pub one_after : (a b c : ℕ) → IsComposed a b c → (d e p : Point) → translated d (sent_by a (translated e (sent_by b p))) ≡ translated (translated d (sent_by a e)) (sent_by c p)
 one_after a b c is d e p =
     ap (translated d) (sent_sum (matrix a) e (sent_by b p))
     ∙ translated_twice d (sent_by a e) (sent_by a (sent_by b p))

@@ -38,8 +38,8 @@ pub fn classes(alloc: Global, packings: &[Packing<'_>], group: Group) -> Result<
     Ok(keys.len() as u64)
 }
 
-/// The carriers of the symmetries that count.
-fn carriers(
+/// For each symmetry of the group that keeps the region and its optional cells the places to which it brings the region's cells.
+pub fn carriers(
     alloc: Global,
     region: &Shape,
     maybe: &[Cell],

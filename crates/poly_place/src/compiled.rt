@@ -73,14 +73,14 @@ impl<'p> Compiled<'p> {
     }
 
     /// The puzzle.
-    pub(crate) fn puzzle(&self) -> &'p Puzzle
+    pub fn puzzle(&self) -> &'p Puzzle
         ensures { result.now ≡ self.now }
     {
         self.puzzle
     }
 
-    /// What each option stands for.
-    pub(crate) fn choices(&self) -> &[Choice]
+    /// What each option that lays a piece stands for, in their order.
+    pub fn choices(&self) -> &[Choice]
         ensures value { result.now ≡ every_choice self.now }
         ensures puzzle { IsPuzzle self.now }
     {

@@ -23,7 +23,7 @@ mod set;
 mod symbol;
 mod table;
 
-pub use alike::{Group, classes};
+pub use alike::{Group, carriers, classes};
 pub use choice::Choice;
 pub use compiled::{Compiled, compile};
 pub use fault::PlaceFault;

@@ -1,0 +1,17 @@
+pub mod ImagePackingLemmas
+pub mod LaidLemmas
+pub mod MovedCoverLemmas
+pub mod AnchorLemmas
+pub mod NewLemmas
+pub mod KeepLemmas
+pub mod RestrictLemmas
+pub mod SmallerLemmas
+pub mod AllowedLemmas
+pub mod CountedLemmas
+pub mod DistinctExamples
+pub mod LeftInLemmas
+pub mod TableOfLemmas
+pub mod KeysTellLemmas
+pub mod MirrorLemmas
+pub mod NewsLemmas
+pub mod FewerLemmas

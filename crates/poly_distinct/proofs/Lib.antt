@@ -9,8 +9,8 @@ pub mod SmallerLemmas
 pub mod AllowedLemmas
 pub mod CountedLemmas
 pub mod DistinctExamples
+pub mod MovesLemmas
 pub mod LeftInLemmas
-pub mod TableOfLemmas
 pub mod KeysTellLemmas
 pub mod MirrorLemmas
 pub mod NewsLemmas

@@ -4,7 +4,11 @@ use Rattle.std.specs.List.{list_all}
 use Rattle.std.proofs.lemmas.Bool.{and_parts, and_from}
 use Rattle.std.proofs.lemmas.List.{length-map, get_or_default}
 use Rattle.std.proofs.lemmas.List.Sums.{sum_by-cons}
+use Rattle.std.specs.Prelude.{Result, Ok}
+use Rattle.cover_problem.specs.declared.fault.Fault.{Fault}
+use Rattle.cover_problem.specs.Validation.{problem_from}
 use Rattle.cover_problem.specs.Lists.{RisesFrom}
+use Rattle.cover_problem.proofs.ProblemLemmas.{made_again}
 use Rattle.cover_problem.specs.Problem.{ProblemValue, IsProblem, option_at, is_option, is_small}
 use Rattle.poly_distinct.specs.Fewer.{with_options, AreNumbersTo}
 use Rattle.cover_problem.proofs.HolderLemmas.{option_here}
@@ -81,3 +85,11 @@ fewer_is_problem p kept sound h r = record {
       and_from _ _ (and_from _ _ b.0 (le-leb (length (map (option_at p) kept)) 262143 (omega (arith, few, long, most))))
       (le-leb (length p.names + sum_by length (map (option_at p) kept) + length (map (option_at p) kept) + 2) 8388608 (omega (arith, few, sum, long, entries)));
 }
+
+-- and its parts make it
+pub fewer_made : (p : ProblemValue) (kept : List ℕ) → IsProblem p → AreNumbersTo (length p.options) kept → RisesFrom 1 kept
+    → (names : List (List ℕ)) (primary : ℕ) (options : List (List ℕ)) → names ≡ p.names → primary ≡ p.primary → options ≡ map (option_at p) kept
+    → problem_from names primary options ≡ Ok (with_options p kept)
+fewer_made p kept sound h r names primary options n m o =
+    ap₂ (λ (xs : List (List ℕ)) (k : ℕ). problem_from xs k options) n m ∙ ap (problem_from p.names p.primary) o
+    ∙ made_again (with_options p kept) (fewer_is_problem p kept sound h r)

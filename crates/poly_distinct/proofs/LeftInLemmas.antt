@@ -6,11 +6,16 @@ use Rattle.cover_problem.specs.Lists.{numbers}
 use Rattle.cover_problem.specs.Problem.{ProblemValue, IsProblem}
 use Rattle.cover_problem.proofs.HolderLemmas.{few_options}
 use Rattle.cover_problem.proofs.NumberLemmas.{numbers_push}
-use Rattle.poly_texts.specs.Puzzle.{PuzzleValue}
-use Rattle.poly_place.specs.Packings.{ChoiceValue, choice_with, every_choice, laying_count, leavings, packing_problem, Thing}
+use Rattle.poly_cells.specs.Coordinates.{Coordinates}
+use Rattle.poly_cells.specs.Sets.{IsIn}
+use Rattle.poly_cells.proofs.CellTestLemmas.{in_from_has}
+use Rattle.poly_texts.specs.Puzzle.{PuzzleValue, IsPuzzle}
+use Rattle.poly_place.specs.Packings.{ChoiceValue, choice_with, every_choice, laying_count, leavings, packing_problem, Thing, a_piece, a_cell, a_node}
+use Rattle.poly_place.proofs.PlacedLemmas.{has_shapes, placed_in}
 use Rattle.poly_place.specs.Chosen.{choice_numbered}
 use Rattle.poly_place.proofs.StandLemmas.{options_long}
-use Rattle.poly_distinct.specs.Distinct.{is_left_in, laying_left, numbers_left}
+use Rattle.poly_distinct.specs.Moves.{LiesInside}
+use Rattle.poly_distinct.specs.Distinct.{is_at, is_left_in, laying_left, numbers_left}
 
 -- one number more
 more_numbers : (test : ℕ → Bool) (k : ℕ) → filter test (numbers (k + 1) 1) ≡ filter test (numbers k 1) ++ cond (test (k + 1)) ((k + 1) ∷ []) []
@@ -67,3 +72,14 @@ all_left p t ns q cs laying left e c is whole =
     whole
     ∙ ap₂ (λ (xs ys : List ℕ). xs ++ ys) (is ∙ ap (laying_left p t ns) c)
     (ap₂ (λ (n k : ℕ). numbers n k) (let h : length q.options - length cs ≡ length (leavings p) = omega (arith, long, same) in h) (ap (λ (n : ℕ). n + 1) same))
+
+-- ---- the cells of choices are the region's
+
+pub choice_inside : (p : PuzzleValue) → IsPuzzle p → (c : ChoiceValue) → IsIn c (every_choice p) → (v : Coordinates) → IsIn v c.cells → IsIn v p.region
+choice_inside p z c i = (placed_in p (has_shapes p z) c i).placed.inside
+
+-- and so is the cell at which one is
+pub lies_inside : (p : PuzzleValue) → IsPuzzle p → (t : Thing) (c : ChoiceValue) → IsIn c (every_choice p) → is_at t c ≡ true → LiesInside p t
+lies_inside p z (a_piece name) c i h = tt
+lies_inside p z (a_cell v) c i h = choice_inside p z c i v (in_from_has c.cells v h)
+lies_inside p z (a_node name k) c i h = tt

@@ -9,7 +9,7 @@ use Rattle.poly_cells.proofs.MemberLemmas.{in_filter, in_from_filter}
 use Rattle.cover_problem.specs.Lists.{has, numbers, RisesFrom}
 use Rattle.cover_problem.specs.Problem.{ProblemValue, option_at}
 use Rattle.cover_problem.specs.ExactCover.{IsExactCover}
-use Rattle.cover_problem.proofs.MemberLemmas.{has_here, has_later, has_append_left, has_append_right, has_append_cases, has_filter, has_filter_in}
+use Rattle.cover_problem.proofs.MemberLemmas.{has_at, has_here, has_later, has_append_left, has_append_right, has_append_cases, has_filter, has_filter_in}
 use Rattle.cover_problem.proofs.NumberLemmas.{has_numbers, has_numbers_in, rises_weaker, rises_filter, rises_numbers}
 use Rattle.poly_texts.specs.Puzzle.{PuzzleValue, IsPuzzle}
 use Rattle.poly_place.specs.declared.alike.Group.{Group}
@@ -22,8 +22,9 @@ use Rattle.poly_place.proofs.StandLemmas.{side, options_long}
 use Rattle.poly_place.proofs.PackingLemmas.{count_back}
 use Rattle.poly_place.proofs.ChosenLemmas.{nat_exact}
 use Rattle.poly_place.proofs.DistinctLemmas.{IsDistinct, distinct_append, distinct_filter, distinct_at}
+use Rattle.poly_distinct.specs.Fewer.{with_options, AreNumbersTo}
 use Rattle.poly_distinct.proofs.AnchorLemmas.{met}
-use Rattle.poly_distinct.proofs.RestrictLemmas.{IsOption, IsCover, AreSame, with_options, number_of, path_of, has_in, in_has, has_map, has_from_map, same_from, same_back, same_sorted, cover_up, path_kept, cover_down, same_down, down, same_on, same_map}
+use Rattle.poly_distinct.proofs.RestrictLemmas.{IsOption, IsCover, AreSame, number_of, path_of, has_in, in_has, has_map, has_from_map, same_from, same_back, same_sorted, cover_up, path_kept, cover_down, same_down, down, same_on, same_map}
 
 -- ---- a list by its numbers
 
@@ -269,3 +270,11 @@ numbers_rise p t ns =
     (rises_filter (λ o. is_left_in p t ns (choice_at p o)) (laying_count p) 1)
     (λ o h. let r = (has_numbers_in (laying_count p) 1 o (has_filter_in (λ o. is_left_in p t ns (choice_at p o)) (numbers (laying_count p) 1) o h).1).1 in omega (arith, r))
     (omega arith) (rises_numbers (length (leavings p)) (laying_count p + 1))
+
+-- and are numbers of options
+pub numbers_are : (p : PuzzleValue) → IsPuzzle p → (t : Thing) (ns : List ℕ) → AreNumbersTo (length (packing_problem p).options) (numbers_left p t ns)
+numbers_are p z t ns k lt =
+    let o = left_are_options p z t ns (get_or (numbers_left p t ns) k 0) (has_at (numbers_left p t ns) k 0 lt) in
+    let a = o.0 in
+    let b = o.1 in
+    (omega (arith, a), omega (arith, b))

@@ -3,6 +3,7 @@ ghost use Rattle.std.specs.Prelude.{◌≡◌, ◌≤◌, ◌+◌, ◌-◌, ◌+
 ghost use Rattle.poly_cells.specs.Sets.{IsIn};
 ghost use Rattle.cover_problem.specs.Lists.{numbers, RisesFrom};
 ghost use Rattle.cover_problem.specs.Answers.{Returns, ReturnsItems};
+ghost use Rattle.poly_texts.specs.Puzzle.{IsPuzzle};
 ghost use Rattle.poly_place.specs.Packings.{every_choice, packing_problem};
 ghost use Rattle.poly_distinct.specs.Distinct.{is_at, is_left_in, laying_left, numbers_left};
 ghost use Rattle.poly_distinct.specs.Fewer.{AreNumbersTo};
@@ -55,6 +56,7 @@ fn laying_left(
     anchor: &Anchor,
     choices: &[Choice],
 ) -> Result<Vec<u32>, AllocError>
+    requires puzzle { IsPuzzle moves.now.puzzle }
     requires all { choices.now ≡ every_choice moves.now.puzzle }
     requires limit { length choices.now ≤ 262143 }
     ensures { ReturnsItems result (laying_left moves.now.puzzle (thing_of anchor.now)
@@ -76,7 +78,8 @@ fn is_left_in(
     anchor: &Anchor,
     choice: &Choice,
 ) -> Result<bool, AllocError>
-    requires { IsIn choice.now (every_choice moves.now.puzzle) }
+    requires puzzle { IsPuzzle moves.now.puzzle }
+    requires member { IsIn choice.now (every_choice moves.now.puzzle) }
     ensures { Returns result (is_left_in moves.now.puzzle (thing_of anchor.now)
         (kept_at moves.now.puzzle moves.now.group (thing_of anchor.now)) choice.now) }
 {

@@ -1,12 +1,12 @@
-use Rattle.std.proofs.Common.{rules, ◌≡◌, ◌≤◌, length, map, ℕ, ◌+◌, ◌-◌, ◌*◌, ◌<◌, ◌/◌, ◌%◌, Bool, true, false, nat_eq, nat_lt, List, [], ◌∷◌, ◌++◌, slice_index_or, slice_set, bit_and, bit_or, Fits, w8, w32, w64, Bor, MutBor}
+use Rattle.std.proofs.Common.{map, vec_items}
 use Rattle.std.specs.String.{string_bytes}
-use Rattle.cover_problem.specs.Lists.{RisesFrom}
-use Rattle.cover_problem.specs.Problem.{option_at}
-use Rattle.cover_problem.specs.Answers.{Returns}
-use Rattle.poly_place.specs.Answers.{ReturnsLists, ReturnsTexts}
-use Rattle.poly_distinct.specs.Fewer.{with_options, AreNumbersTo}
+use Rattle.poly_place.proofs.MadeLemmas.{not_faulty}
+use Rattle.poly_distinct.proofs.FewerLemmas.{fewer_made}
 use Rattle.poly_distinct.proofs.fewer.with_options.Goals as goal
 
--- src/fewer.rt:25:39
 pub unreachable-requires : goal.unreachable-requires
-unreachable-requires c = ?
+unreachable-requires c =
+    let made =
+    fewer_made c.args.problem.now c.args.kept.now c.is_sound.ensures.problem c.requires.numbers c.requires.rise (map string_bytes c.in_ok-names.names.items) c.primary.result (map vec_items c.in_ok-options.options.items)
+    c.in_ok-names.ensures c.primary.ensures c.in_ok-options.ensures in
+    not_faulty _ c.in-Fault.field-0 _ _ made c.in-Fault.is c.in-Err.ensures.refused

@@ -1,17 +1,13 @@
-use Rattle.std.proofs.Common.{rules, ◌≡◌, ◌≤◌, ◌+◌, ◌-◌, ◌++◌, IfOk, length, ℕ, ◌*◌, ◌<◌, ◌/◌, ◌%◌, Bool, true, false, nat_eq, nat_lt, List, [], ◌∷◌, slice_index_or, slice_set, bit_and, bit_or, Fits, w8, w32, w64, Bor, MutBor}
+use Rattle.std.proofs.Common.{sym, subst, ◌∙◌}
 use Rattle.poly_cells.specs.Sets.{IsIn}
-use Rattle.cover_problem.specs.Lists.{numbers, RisesFrom}
-use Rattle.cover_problem.specs.Answers.{Returns, ReturnsItems}
-use Rattle.poly_place.specs.Packings.{every_choice, packing_problem}
-use Rattle.poly_distinct.specs.Distinct.{is_at, is_left_in, laying_left, numbers_left}
-use Rattle.poly_distinct.specs.Fewer.{AreNumbersTo}
-use Rattle.poly_distinct.specs.Moves.{thing_of, kept_at}
+use Rattle.poly_distinct.specs.Moves.{thing_of}
+use Rattle.poly_distinct.proofs.LeftInLemmas.{choice_inside, lies_inside}
 use Rattle.poly_distinct.proofs.smaller.is_left_in.Goals as goal
 
--- src/smaller.rt:86:5
 pub is_first-requires-clause-anchor : goal.is_first-requires-clause-anchor
-is_first-requires-clause-anchor c = ?
+is_first-requires-clause-anchor c =
+    lies_inside c.args.moves.now.puzzle c.requires.puzzle (thing_of c.args.anchor.now) c.args.choice.now c.requires.member (sym c.is_at.ensures ∙ c.if-not-is_at.false)
 
--- src/smaller.rt:86:5
 pub is_first-requires-clause-inside : goal.is_first-requires-clause-inside
-is_first-requires-clause-inside c = ?
+is_first-requires-clause-inside c v i =
+    choice_inside c.args.moves.now.puzzle c.requires.puzzle c.args.choice.now c.requires.member v (subst (IsIn v) c.cells.ensures i)

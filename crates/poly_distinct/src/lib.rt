@@ -3,11 +3,14 @@
 
 mod anchor;
 mod fewer;
+mod forms;
 pub mod laws;
 mod moves;
+mod news;
 mod smaller;
 
 pub use anchor::Anchor;
 pub use fewer::with_options;
 pub use moves::Moves;
+pub use news::distinct_paths;
 pub use smaller::{is_at, numbers_left};

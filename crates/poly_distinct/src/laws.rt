@@ -10,6 +10,7 @@ ghost use Rattle.poly_place.specs.Chosen.{packing_value};
 ghost use Rattle.poly_place.specs.Classes.{AreAlike, IsClassCount};
 ghost use Rattle.poly_place.specs.ClassCount.{are_alike, class_count};
 ghost use Rattle.poly_place.specs.Forms.{IsKept, AreCarriers};
+ghost use Rattle.poly_distinct.specs.Fewer.{with_options, AreNumbersTo};
 ghost use Rattle.poly_distinct.specs.Distinct.{KeepsPieces, Mirrors, IsAnchor, AreAllowed, IsPath, IsMoved, AreTheCovers, MeetAll, AreOneOfEach};
 ghost use Rattle.poly_distinct.specs.Distinct.{smaller_problem, whole_path, distinct_paths, allowed, HaveInverses, AreDifferent, counted, images_by, cells_at, numbers_left, new_by_keys, are_mirrors, IsPartOf};
 
@@ -26,6 +27,12 @@ pub fn symmetries_keep_pieces()
 pub fn packings_are_moved()
     ensures { (p : PuzzleValue) (group : Group) (n : ℕ) (s : ℕ → ℕ) (q : List ℕ) → IsPuzzle p → IsKept group p.region p.maybe_cells n → KeepsPieces p s n
         → IsPath p q → (r : List ℕ) × IsPath p r × IsMoved p s n q r × AreAlike group (packing_value p q) (packing_value p r) }
+{}
+
+/// The smaller problem is the puzzle's with those of its options alone that are left in.
+pub fn smaller_problem_has_fewer_options()
+    ensures problem { (p : PuzzleValue) (t : Thing) (ns : List ℕ) → IsPuzzle p → smaller_problem p t ns ≡ with_options (packing_problem p) (numbers_left p t ns) }
+    ensures numbers { (p : PuzzleValue) (t : Thing) (ns : List ℕ) → IsPuzzle p → AreNumbersTo (length (packing_problem p).options) (numbers_left p t ns) }
 {}
 
 /// The exact covers of the smaller problem stand for packings of the puzzle, and each packing is alike to one of them.

@@ -11,7 +11,11 @@ use poly_place::Choice;
 use std::alloc::{AllocError, Global};
 
 /// The part of each cell of the region.
-pub fn parts_in(alloc: Global, region: &[Cell], placements: &[Choice]) -> Result<Vec<usize>, AllocError>
+pub fn parts_in(
+    alloc: Global,
+    region: &[Cell],
+    placements: &[Choice],
+) -> Result<Vec<usize>, AllocError>
     ensures { ReturnsItems result (parts_in region.now placements.now) }
 {
     let mut parts = Vec::with_capacity(alloc, region.len())?;

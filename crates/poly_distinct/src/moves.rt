@@ -39,11 +39,7 @@ impl<'p> Model for Moves<'p> {
 
 impl<'p> Moves<'p> {
     /// Those of a puzzle.
-    pub fn of(
-        alloc: Global,
-        compiled: &Compiled<'p>,
-        group: Group,
-    ) -> Result<Moves<'p>, AllocError>
+    pub fn of(alloc: Global, compiled: &Compiled<'p>, group: Group) -> Result<Moves<'p>, AllocError>
         ensures { Returns result (record { puzzle = compiled.now; group = group }) }
     {
         let puzzle = compiled.puzzle();

@@ -52,7 +52,8 @@ fn key(
 ) -> Result<Vec<usize>, AllocError>
     requires cover { IsExactCover (packing_problem compiled.now) (has path.now) }
     requires carriers { AllAreBelow (length cells.now) (lists_of carriers.now) }
-    ensures { ReturnsItems result (key_of cells.now (lists_of carriers.now) (packing_value compiled.now path.now)) }
+    ensures { ReturnsItems result
+        (key_of cells.now (lists_of carriers.now) (packing_value compiled.now path.now)) }
 {
     let packing = packing_of(alloc, compiled, path)?;
     let parts = parts_in(alloc, cells, packing.placements())?;

@@ -16,12 +16,42 @@ enum At {
 struct Row(&'static [u8], At, bool, usize);
 
 static ROWS: [Row; 20] = [
-    Row(b"piece A 000 100\npiece B 000\nbox 3 1 1\n", At::Piece(b'A'), false, 4),
-    Row(b"piece A 000 100\npiece B 000 100\nbox 2 2 1\n", At::Piece(b'A'), false, 5),
-    Row(b"piece A 000 100\npiece B 000 100\nbox 2 2 1\n", At::Piece(b'A'), true, 5),
-    Row(b"copies ABC 000 100\nbox 3 2 1\n", At::Cell(1, 0, 0), false, 12),
-    Row(b"copies ABC 000 100\nbox 3 2 1\n", At::Cell(1, 0, 0), true, 12),
-    Row(b"any piece D 000 100\npiece M 000\nbox 3 3 1\n", At::Piece(b'M'), false, 15),
+    Row(
+        b"piece A 000 100\npiece B 000\nbox 3 1 1\n",
+        At::Piece(b'A'),
+        false,
+        4,
+    ),
+    Row(
+        b"piece A 000 100\npiece B 000 100\nbox 2 2 1\n",
+        At::Piece(b'A'),
+        false,
+        5,
+    ),
+    Row(
+        b"piece A 000 100\npiece B 000 100\nbox 2 2 1\n",
+        At::Piece(b'A'),
+        true,
+        5,
+    ),
+    Row(
+        b"copies ABC 000 100\nbox 3 2 1\n",
+        At::Cell(1, 0, 0),
+        false,
+        12,
+    ),
+    Row(
+        b"copies ABC 000 100\nbox 3 2 1\n",
+        At::Cell(1, 0, 0),
+        true,
+        12,
+    ),
+    Row(
+        b"any piece D 000 100\npiece M 000\nbox 3 3 1\n",
+        At::Piece(b'M'),
+        false,
+        15,
+    ),
     Row(
         b"any piece T 000 100 010\nany piece I 000 100 200\nbox 3 3 1\n",
         At::Cell(1, 1, 0),
@@ -77,7 +107,12 @@ static ROWS: [Row; 20] = [
         false,
         25,
     ),
-    Row(b"piece A 000 100 200\npiece B 000\nbox 2 2 1\n", At::Piece(b'B'), true, 1),
+    Row(
+        b"piece A 000 100 200\npiece B 000\nbox 2 2 1\n",
+        At::Piece(b'B'),
+        true,
+        1,
+    ),
     Row(
         b"piece A 000 100 010 001\npiece B 000 100 010 001\nbox 2 2 2\n",
         At::Piece(b'A'),
@@ -95,7 +130,8 @@ static ROWS: [Row; 20] = [
     Row(SOMA, At::Piece(b'Z'), true, 618),
 ];
 
-const SOMA: &[u8] = b"piece V 000 100 010\npiece L 000 100 200 010\npiece T 000 100 200 110\npiece Z 000 100 110 210\npiece A 000 100 010 101\npiece B 000 100 010 011\npiece P 000 100 010 001\nbox 3 3 3\n";
+const SOMA: &[u8] =
+    b"piece V 000 100 010\npiece L 000 100 200 010\npiece T 000 100 200 110\npiece Z 000 100 110 210\npiece A 000 100 010 101\npiece B 000 100 010 011\npiece P 000 100 010 001\nbox 3 3 3\n";
 
 /// The anchor with this name.
 fn piece_named(puzzle: &Puzzle, symbol: u8) -> Result<Anchor, Fail> {
@@ -125,7 +161,11 @@ fn left(
     anchor: &Anchor,
     reflects: bool,
 ) -> Result<Vec<u32>, Fail> {
-    let group = if reflects { Group::Symmetries } else { Group::Rotations };
+    let group = if reflects {
+        Group::Symmetries
+    } else {
+        Group::Rotations
+    };
     let moves = Moves::of(alloc, compiled, group)?;
     Ok(numbers_left(alloc, compiled, &moves, anchor)?)
 }

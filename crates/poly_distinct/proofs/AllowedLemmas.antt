@@ -1,8 +1,7 @@
 -- The symmetries by which choices are left out, as a list that is computed.
-use Rattle.std.proofs.Common.{◌≡◌, ℕ, ◌<◌, ◌==◌, Bool, true, false, ◌&&◌, ◌||◌, List, filter, ◌⊎◌, inl, inr, refl, sym, ap, subst, ◌∙◌, arith, eqb-true, eq-eqb}
+use Rattle.std.proofs.Common.{◌≡◌, ℕ, ◌<◌, ◌==◌, Bool, true, false, ◌&&◌, ◌||◌, List, ◌⊎◌, inl, inr, refl, sym, ap, subst, ◌∙◌, arith, eqb-true}
 use Rattle.std.specs.List.{range_with_len}
 use Rattle.std.specs.Cmp.{Equal-is, booleans_Decides}
-use Rattle.std.specs.Ordering.{is_eq}
 use Rattle.std.proofs.Math.Bool.{beq}
 use Rattle.std.proofs.lemmas.Bool.{cases_Bool, both_ways, and_parts, and_from, or_cases, or_left, or_right}
 use Rattle.std.proofs.lemmas.Cmp.{tied_itself}
@@ -10,7 +9,7 @@ use Rattle.poly_cells.specs.Coordinates.{Coordinates}
 use Rattle.poly_cells.specs.Symmetries.{matrix, is_rotation}
 use Rattle.poly_cells.specs.Sets.{IsIn}
 use Rattle.poly_cells.specs.Shapes.{IsShape, turned, normal}
-use Rattle.poly_cells.specs.CellTests.{is_same, has_cell}
+use Rattle.poly_cells.specs.CellTests.{has_cell}
 use Rattle.poly_cells.proofs.MemberLemmas.{in_from_filter, in_filter, all_pass, passes, in_from_range, in_to_range}
 use Rattle.poly_cells.proofs.CoordinateLemmas.{is_same_Decides}
 use Rattle.poly_cells.proofs.CellTestLemmas.{in_from_has}
@@ -23,7 +22,7 @@ use Rattle.poly_place.specs.Packings.{must_fill, Thing, a_piece, a_cell, a_node}
 use Rattle.poly_place.specs.Classes.{is_member}
 use Rattle.poly_place.specs.ClassCount.{image_in, agree}
 use Rattle.poly_place.specs.Forms.{IsKept}
-use Rattle.poly_distinct.specs.Distinct.{KeepsPieces, Mirrors, IsAnchor, KeepsThing, IsAllowed, AreAllowed, HaveInverses, keeps_region, keeps_thing, is_allowed, allowed}
+use Rattle.poly_distinct.specs.Distinct.{Mirrors, IsAnchor, KeepsThing, IsAllowed, AreAllowed, HaveInverses, keeps_region, keeps_thing, is_allowed, allowed}
 use Rattle.poly_place.proofs.PlacedLemmas.{has_shapes}
 use Rattle.poly_place.proofs.OrderLemmas.{cells_total, cells_exact}
 use Rattle.poly_place.proofs.CarryLemmas.{kept_composed, kept_inverse, neutral_kept, neutral_stays, maps_at, maps_are}

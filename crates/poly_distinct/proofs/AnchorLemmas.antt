@@ -1,28 +1,27 @@
 -- Each packing is alike to one whose choice at an anchor is left in.
-use Rattle.std.proofs.Common.{◌≡◌, ℕ, ◌==◌, Bool, true, false, not, ◌||◌, List, [], ◌∷◌, ◌⊎◌, map, inl, inr, refl, sym, ap, subst, subst₂, ◌∙◌, Ordering, Less, Equal, Greater, eqb-true, eq-eqb}
-use Rattle.std.specs.List.{list_all, flat_map}
+use Rattle.std.proofs.Common.{◌≡◌, ℕ, true, false, not, List, [], ◌∷◌, map, inl, inr, refl, sym, ap, subst, subst₂, ◌∙◌, Ordering, Less, Equal, Greater, eqb-true, eq-eqb}
+use Rattle.std.specs.List.{flat_map}
 use Rattle.std.specs.Ordering.{is_lt}
 use Rattle.std.specs.Cmp.{IsTotalOrder}
 use Rattle.std.proofs.lemmas.Bool.{cases_Bool, both_ways, true≢false, false_from_ne_true, not_from_false, or_left, or_right}
 use Rattle.poly_cells.specs.Coordinates.{Coordinates, coordinates_cmp}
-use Rattle.poly_cells.specs.Sets.{IsIn, in_order}
-use Rattle.poly_cells.specs.CellTests.{has_cell}
+use Rattle.poly_cells.specs.Sets.{IsIn}
 use Rattle.poly_cells.proofs.SetLemmas.{cases_order, turned_back, not_both, not_itself, in_map, in_from_map, in_from_order, in_to_order, in_order_rises, same_members}
 use Rattle.poly_cells.proofs.MemberLemmas.{all_pass, passes, in_from_flat_map}
 use Rattle.poly_cells.proofs.CellTestLemmas.{in_from_has, has_from_in}
 use Rattle.poly_cells.proofs.CoordinateLemmas.{coordinates_total, coordinates_exact}
-use Rattle.poly_texts.specs.Puzzle.{PuzzleValue, IsPuzzle, names_of, has_name, is_needed, is_spare}
+use Rattle.poly_texts.specs.Puzzle.{PuzzleValue, IsPuzzle, names_of, has_name, is_spare}
 use Rattle.poly_place.specs.declared.alike.Group.{Group}
 use Rattle.poly_place.specs.Placements.{cells_cmp}
-use Rattle.poly_place.specs.Packings.{ChoiceValue, is_any, IsPlaced, IsPacking, Thing, a_piece, a_cell, a_node}
+use Rattle.poly_place.specs.Packings.{ChoiceValue, is_any, IsPacking, Thing, a_piece, a_cell, a_node}
 use Rattle.poly_place.specs.Chosen.{is_among, chosen_by, packing_value}
 use Rattle.poly_place.specs.Classes.{AreAlike}
 use Rattle.poly_place.specs.Swaps.{AreEqual}
 use Rattle.poly_place.specs.ClassCount.{image_in}
 use Rattle.poly_place.specs.Forms.{IsKept}
-use Rattle.poly_distinct.specs.Distinct.{IsPath, IsMoved, image_of, KeepsPieces, is_at, IsAnchor, KeepsThing, IsAllowed, AreAllowed, is_least, is_left_in}
+use Rattle.poly_distinct.specs.Distinct.{IsPath, IsMoved, image_of, KeepsPieces, is_at, IsAnchor, KeepsThing, AreAllowed, is_least, is_left_in}
 use Rattle.poly_place.proofs.PlacedLemmas.{has_shapes}
-use Rattle.poly_place.proofs.OrderLemmas.{cells_total, cells_exact}
+use Rattle.poly_place.proofs.OrderLemmas.{cells_total}
 use Rattle.poly_place.proofs.DistinctLemmas.{in_from_name}
 use Rattle.poly_place.proofs.StandLemmas.{needed_single}
 use Rattle.poly_place.proofs.ChosenLemmas.{cover_packs}

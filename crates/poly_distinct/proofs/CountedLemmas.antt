@@ -1,35 +1,32 @@
 -- How many packings there are, told by those of the smaller problem.
-use Rattle.std.proofs.Common.{◌≡◌, ℕ, zero, suc, ◌+◌, ◌*◌, ◌-◌, ◌<◌, ◌≤◌, ◌==◌, nat_le, Bool, true, false, not, cond, List, [], ◌∷◌, ◌++◌, ◌⊎◌, map, flat_map, filter, length, get_or, find, unwrap_or, sum_by, inl, inr, refl, sym, ap, ap₂, subst, subst₂, ◌∙◌, arith, Option, Some, None, eqb-true, eq-eqb}
+use Rattle.std.proofs.Common.{◌≡◌, ℕ, ◌*◌, Bool, true, false, not, List, [], ◌∷◌, ◌⊎◌, map, flat_map, filter, length, get_or, unwrap_or, sum_by, inl, inr, refl, sym, ap, ap₂, subst, subst₂, ◌∙◌, arith, Option, Some, None}
 use Rattle.std.specs.Ordering.{is_eq, is_lt}
-use Rattle.std.specs.Cmp.{Equal-is, both_ways as same_tests}
+use Rattle.std.specs.Cmp.{Equal-is}
 use Rattle.std.specs.List.Sorted.{IsStrictlySortedBy}
-use Rattle.std.proofs.lemmas.Bool.{cases_Bool, both_ways, true≢false, false≢true, or_cases, cond-true}
+use Rattle.std.proofs.lemmas.Bool.{cases_Bool, both_ways, true≢false, false≢true, or_cases}
 use Rattle.std.proofs.lemmas.Cmp.{tied_itself}
 use Rattle.std.proofs.lemmas.List.{length-map}
 use Rattle.std.proofs.lemmas.List.Concat.{length-flat_map}
 use Rattle.std.proofs.lemmas.List.Sums.{sum_by-cons}
 use Rattle.poly_cells.specs.Coordinates.{Coordinates, coordinates_cmp}
-use Rattle.poly_cells.specs.Sets.{IsIn, IsExact, in_order}
+use Rattle.poly_cells.specs.Sets.{IsIn}
 use Rattle.poly_cells.specs.Shapes.{IsShape}
-use Rattle.poly_cells.proofs.SetLemmas.{cases_order, turned_back, in_map, in_from_map, in_from_order, in_to_order, in_order_rises, same_members, in_append_cases}
-use Rattle.poly_cells.proofs.MemberLemmas.{in_flat_map, in_from_flat_map, in_filter, in_from_filter, all_pass, passes, same_function}
+use Rattle.poly_cells.proofs.SetLemmas.{cases_order, turned_back, in_map, in_from_map, in_from_order, in_to_order, in_order_rises, same_members}
+use Rattle.poly_cells.proofs.MemberLemmas.{in_flat_map, in_from_flat_map, in_filter, in_from_filter, passes, same_function}
 use Rattle.poly_cells.proofs.CoordinateLemmas.{coordinates_total, coordinates_exact}
-use Rattle.cover_problem.specs.Lists.{has, numbers}
-use Rattle.cover_problem.specs.Problem.{ProblemValue}
-use Rattle.cover_problem.specs.ExactCover.{IsExactCover}
-use Rattle.cover_problem.proofs.NumberLemmas.{has_numbers_in}
+use Rattle.cover_problem.specs.Lists.{has}
 use Rattle.poly_texts.specs.Puzzle.{PuzzleValue, IsPuzzle, names_of}
 use Rattle.poly_place.specs.declared.alike.Group.{Group}
 use Rattle.poly_place.specs.Placements.{cells_cmp}
-use Rattle.poly_place.specs.Packings.{ChoiceValue, choice_with, IsPacking, packing_problem, SetStandsFor, Thing, a_node, choice_at, leavings, laying_count}
-use Rattle.poly_place.specs.Chosen.{PackingValue, is_among, chosen_by, packing_value}
+use Rattle.poly_place.specs.Packings.{ChoiceValue, choice_with, packing_problem, SetStandsFor, Thing, a_node}
+use Rattle.poly_place.specs.Chosen.{PackingValue, is_among, chosen_by}
 use Rattle.poly_place.specs.Swaps.{AreEqual, IsSwap}
 use Rattle.poly_place.specs.ClassCount.{image_in}
 use Rattle.poly_place.specs.Forms.{IsKept}
-use Rattle.poly_distinct.specs.Distinct.{image_of, KeepsPieces, is_at, IsAnchor, IsAllowed, AreAllowed, HaveInverses, is_least, is_left_in, IsPath, IsMoved, smaller_problem, numbers_left, whole_path, AreTheCovers, AreDifferent, cells_at, images_by, counted}
+use Rattle.poly_distinct.specs.Distinct.{image_of, KeepsPieces, is_at, IsAnchor, AreAllowed, HaveInverses, is_least, is_left_in, IsPath, IsMoved, smaller_problem, numbers_left, whole_path, AreTheCovers, AreDifferent, cells_at, images_by, counted}
 use Rattle.poly_place.proofs.PlacedLemmas.{has_shapes}
 use Rattle.poly_place.proofs.OrderLemmas.{cells_total, cells_exact}
-use Rattle.poly_place.proofs.DistinctLemmas.{IsDistinct, distinct_append, distinct_filter, distinct_rising, distinct_at}
+use Rattle.poly_place.proofs.DistinctLemmas.{IsDistinct, distinct_append, distinct_rising}
 use Rattle.poly_place.proofs.StandLemmas.{same_group}
 use Rattle.poly_place.proofs.PackingLemmas.{one_cover}
 use Rattle.poly_place.proofs.ChosenLemmas.{cover_packs, cover_stands}
@@ -38,7 +35,7 @@ use Rattle.poly_distinct.proofs.ImagePackingLemmas.{in_from_among, among_from_in
 use Rattle.poly_distinct.proofs.MovedCoverLemmas.{inside_of, moved_path}
 use Rattle.poly_distinct.proofs.AnchorLemmas.{image_twice, anchor_in, anchor_once, goes_to_anchor, left_there, brings_least}
 use Rattle.poly_distinct.proofs.NewLemmas.{no_longer}
-use Rattle.poly_distinct.proofs.RestrictLemmas.{AreSame, same_on, same_back, same_map, same_from, has_map, has_from_map, in_has, has_in, number_of}
+use Rattle.poly_distinct.proofs.RestrictLemmas.{AreSame, same_on, same_back, same_map, number_of}
 use Rattle.poly_distinct.proofs.SmallerLemmas.{whole_is_path, path_is_whole, same_packing, left_choices, different_whole}
 
 -- ---- equal names

@@ -5,11 +5,11 @@ use Rattle.poly_cells.specs.Symmetries.{matrix, is_rotation, rotations}
 use Rattle.poly_cells.specs.Sets.{in_order}
 use Rattle.poly_cells.specs.Shapes.{normal, turned}
 use Rattle.poly_texts.specs.Puzzle.{PuzzleValue}
-use Rattle.poly_place.specs.declared.alike.Group.TheVariants.{Rotations, Symmetries}
+use Rattle.poly_place.specs.declared.alike.Group.TheVariants.{Rotations}
 use Rattle.poly_place.specs.Placements.{orientations, placements}
-use Rattle.poly_place.specs.Packings.{every_choice, leavings, choice_with, a_piece, a_cell, packing_problem, thing_item}
+use Rattle.poly_place.specs.Packings.{every_choice, leavings, choice_with, a_piece, a_cell}
 use Rattle.poly_place.specs.ClassCount.{image_in}
-use Rattle.poly_distinct.specs.Distinct.{image_of, allowed, choices_left, numbers_left, whole_path, images_by, counted, smaller_problem, are_mirrors}
+use Rattle.poly_distinct.specs.Distinct.{image_of, allowed, choices_left, numbers_left, whole_path, counted, are_mirrors}
 
 -- the pieces A of two cells and B of one, for a row of three cells: AAB and BAA
 abbrev pub row : PuzzleValue

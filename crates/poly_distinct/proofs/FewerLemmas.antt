@@ -1,15 +1,14 @@
 -- A problem with some of its options alone is a problem.
-use Rattle.std.proofs.Common.{◌≡◌, ℕ, zero, suc, ◌+◌, ◌-◌, ◌<◌, ◌≤◌, nat_le, ◌&&◌, true, List, [], ◌∷◌, map, length, get_or, sum_by, ◌⊎◌, inl, inr, refl, sym, ap, ap₂, subst, ◌∙◌, arith, leb-true, le-leb}
+use Rattle.std.proofs.Common.{◌≡◌, ℕ, suc, ◌+◌, ◌-◌, ◌<◌, ◌≤◌, nat_le, ◌&&◌, true, List, [], ◌∷◌, map, length, get_or, sum_by, ◌⊎◌, inl, inr, refl, ap, ap₂, subst, ◌∙◌, arith, leb-true, le-leb}
 use Rattle.std.specs.List.{list_all}
 use Rattle.std.proofs.lemmas.Bool.{and_parts, and_from}
-use Rattle.std.proofs.lemmas.List.{length-map, get_or_default}
+use Rattle.std.proofs.lemmas.List.{length-map}
 use Rattle.std.proofs.lemmas.List.Sums.{sum_by-cons}
-use Rattle.std.specs.Prelude.{Result, Ok}
-use Rattle.cover_problem.specs.declared.fault.Fault.{Fault}
+use Rattle.std.specs.Prelude.{Ok}
 use Rattle.cover_problem.specs.Validation.{problem_from}
 use Rattle.cover_problem.specs.Lists.{RisesFrom}
 use Rattle.cover_problem.proofs.ProblemLemmas.{made_again}
-use Rattle.cover_problem.specs.Problem.{ProblemValue, IsProblem, option_at, is_option, is_small}
+use Rattle.cover_problem.specs.Problem.{ProblemValue, IsProblem, option_at, is_option}
 use Rattle.poly_distinct.specs.Fewer.{with_options, AreNumbersTo}
 use Rattle.cover_problem.proofs.HolderLemmas.{option_here}
 use Rattle.cover_problem.proofs.NumberLemmas.{rises_weaker}

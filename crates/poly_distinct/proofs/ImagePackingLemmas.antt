@@ -1,10 +1,9 @@
 -- The images of a packing's choices under a symmetry that keeps the region, its optional cells and the pieces are a packing, where all
 -- pieces are told apart.
-use Rattle.std.proofs.Common.{◌≡◌, ℕ, Bool, true, false, not, ◌&&◌, List, [], ◌∷◌, ◌⊎◌, map, inl, inr, refl, sym, ap, ap₂, subst, ◌∙◌}
-use Rattle.std.specs.List.Sorted.{IsStrictlySortedBy}
-use Rattle.std.proofs.lemmas.Bool.{and_parts, and_from}
+use Rattle.std.proofs.Common.{◌≡◌, ℕ, Bool, true, false, not, ◌&&◌, List, map, inl, inr, sym, ap, ap₂, subst, ◌∙◌}
+use Rattle.std.proofs.lemmas.Bool.{and_parts}
 use Rattle.poly_cells.specs.Coordinates.{Coordinates, coordinates_cmp}
-use Rattle.poly_cells.specs.Sets.{IsIn, in_order}
+use Rattle.poly_cells.specs.Sets.{IsIn}
 use Rattle.poly_cells.specs.Shapes.{IsShape}
 use Rattle.poly_cells.specs.CellTests.{has_cell}
 use Rattle.poly_cells.proofs.SetLemmas.{in_map, in_from_map, in_from_order, in_to_order, in_order_rises}
@@ -12,7 +11,7 @@ use Rattle.poly_cells.proofs.MemberLemmas.{some_passes, passes_some}
 use Rattle.poly_cells.proofs.CoordinateLemmas.{coordinates_total, coordinates_exact}
 use Rattle.poly_texts.specs.Puzzle.{PuzzleValue, IsPuzzle, names_of, is_needed, is_spare}
 use Rattle.poly_place.specs.declared.alike.Group.{Group}
-use Rattle.poly_place.specs.Packings.{ChoiceValue, choice_with, is_any, must_fill, IsUsed, IsPlaced, IsPacking}
+use Rattle.poly_place.specs.Packings.{ChoiceValue, is_any, must_fill, IsPlaced, IsPacking}
 use Rattle.poly_place.specs.Chosen.{is_among, same_choice}
 use Rattle.poly_place.specs.Swaps.{told_apart}
 use Rattle.poly_place.specs.ClassCount.{image_in}

@@ -1,13 +1,13 @@
 -- Which symmetries keep the pieces: each rotation, and each reflection where pieces are exchanged for their mirror images.
-use Rattle.std.proofs.Common.{◌≡◌, ℕ, ◌<◌, ◌≤◌, Bool, true, false, cond, List, map, ◌⊎◌, inl, inr, refl, sym, ap, ap₂, subst, ◌∙◌, arith}
+use Rattle.std.proofs.Common.{◌≡◌, ℕ, ◌<◌, true, false, List, ◌⊎◌, inl, inr, refl, sym, ap, ap₂, subst, ◌∙◌, arith}
 use Rattle.std.proofs.Math.Bool.{beq}
 use Rattle.std.specs.Cmp.{booleans_Decides}
-use Rattle.std.proofs.lemmas.Bool.{cases_Bool, both_ways, cond-true, cond-false}
-use Rattle.poly_cells.specs.Coordinates.{Coordinates, coordinates_cmp}
+use Rattle.std.proofs.lemmas.Bool.{cases_Bool, cond-true, cond-false}
+use Rattle.poly_cells.specs.Coordinates.{Coordinates}
 use Rattle.poly_cells.specs.Points.{Point, point, translated}
-use Rattle.poly_cells.specs.Symmetries.{matrix, sent_by, is_rotation, rotations}
+use Rattle.poly_cells.specs.Symmetries.{matrix, sent_by, is_rotation}
 use Rattle.poly_cells.specs.Products.{composed}
-use Rattle.poly_cells.specs.Sets.{IsIn, in_order}
+use Rattle.poly_cells.specs.Sets.{IsIn}
 use Rattle.poly_cells.specs.Shapes.{IsShape}
 use Rattle.poly_cells.specs.Images.{IsImage}
 use Rattle.poly_cells.proofs.SetLemmas.{in_map}
@@ -15,14 +15,14 @@ use Rattle.poly_cells.proofs.MemberLemmas.{in_from_range, in_to_range}
 use Rattle.poly_cells.proofs.Tables.{all_below, pairs}
 use Rattle.poly_cells.proofs.SymmetryTables.{composed_in, is_composed, rotation_composed}
 use Rattle.poly_cells.proofs.GroupLemmas.{rotation_from_in, in_from_rotation}
-use Rattle.poly_texts.specs.Puzzle.{PuzzleValue, IsPuzzle, names_of, has_name}
+use Rattle.poly_texts.specs.Puzzle.{PuzzleValue, IsPuzzle, has_name}
 use Rattle.poly_place.specs.declared.alike.Group.{Group}
 use Rattle.poly_place.specs.declared.alike.Group.TheVariants.{Rotations, Symmetries}
-use Rattle.poly_place.specs.Placements.{IsPlacement, turns_by, symmetries}
+use Rattle.poly_place.specs.Placements.{turns_by}
 use Rattle.poly_place.specs.Packings.{turns_of}
 use Rattle.poly_place.specs.ClassCount.{image_in}
 use Rattle.poly_place.specs.Forms.{IsKept}
-use Rattle.poly_distinct.specs.Distinct.{image_of, KeepsPieces, IsMirrored, Mirrors}
+use Rattle.poly_distinct.specs.Distinct.{image_of, KeepsPieces, Mirrors}
 use Rattle.poly_place.proofs.PlacedLemmas.{has_shapes}
 use Rattle.poly_place.proofs.CarryLemmas.{one_after, image_point}
 use Rattle.poly_distinct.proofs.ImagePackingLemmas.{stays, in_image, from_image}

@@ -1,15 +1,14 @@
 -- The paths that are like none before them, by their least forms.
-use Rattle.std.proofs.Common.{◌≡◌, ℕ, Bool, true, List, [], ◌∷◌, inl, inr, refl, sym, ap, subst, ◌∙◌}
+use Rattle.std.proofs.Common.{◌≡◌, ℕ, Bool, List, [], ◌∷◌, inl, inr, refl, sym, ap, subst, ◌∙◌}
 use Rattle.std.specs.Cmp.{Equal-is, both_ways as same_tests}
 use Rattle.std.specs.Ordering.{is_eq}
 use Rattle.std.proofs.lemmas.Cmp.{tied_itself}
 use Rattle.poly_cells.specs.Coordinates.{Coordinates}
-use Rattle.poly_cells.specs.Sets.{IsIn}
 use Rattle.poly_cells.proofs.MemberLemmas.{same_function}
 use Rattle.poly_texts.specs.Puzzle.{PuzzleValue, IsPuzzle}
 use Rattle.poly_place.specs.declared.alike.Group.{Group}
-use Rattle.poly_place.specs.Chosen.{PackingValue, packing_value}
-use Rattle.poly_place.specs.Classes.{AreAlike, HaveOneRegion}
+use Rattle.poly_place.specs.Chosen.{packing_value}
+use Rattle.poly_place.specs.Classes.{AreAlike}
 use Rattle.poly_place.specs.Forms.{AreCarriers, forms_cmp, key_of}
 use Rattle.poly_distinct.specs.Distinct.{new_from, are_like_paths, distinct_paths, new_by_keys}
 use Rattle.poly_place.proofs.PlacedLemmas.{has_shapes}

@@ -1,5 +1,5 @@
 -- Loops that tell which choices are left in.
-use Rattle.std.proofs.Common.{◌≡◌, ℕ, suc, ◌+◌, ◌-◌, ◌<◌, ◌≤◌, Bool, true, false, cond, List, [], ◌∷◌, ◌++◌, filter, length, get_or, refl, sym, ap, ap₂, ◌∙◌, arith, append-nil}
+use Rattle.std.proofs.Common.{◌≡◌, ℕ, suc, ◌+◌, ◌-◌, ◌<◌, ◌≤◌, Bool, true, false, cond, List, [], ◌∷◌, ◌++◌, filter, length, get_or, sym, ap, ap₂, ◌∙◌, arith, append-nil}
 use Rattle.std.proofs.lemmas.List.{get_or_default}
 use Rattle.std.proofs.lemmas.List.Elements.{filter-append}
 use Rattle.cover_problem.specs.Lists.{numbers}
@@ -10,12 +10,12 @@ use Rattle.poly_cells.specs.Coordinates.{Coordinates}
 use Rattle.poly_cells.specs.Sets.{IsIn}
 use Rattle.poly_cells.proofs.CellTestLemmas.{in_from_has}
 use Rattle.poly_texts.specs.Puzzle.{PuzzleValue, IsPuzzle}
-use Rattle.poly_place.specs.Packings.{ChoiceValue, choice_with, every_choice, laying_count, leavings, packing_problem, Thing, a_piece, a_cell, a_node}
+use Rattle.poly_place.specs.Packings.{ChoiceValue, choice_with, every_choice, leavings, packing_problem, Thing, a_piece, a_cell, a_node}
 use Rattle.poly_place.proofs.PlacedLemmas.{has_shapes, placed_in}
 use Rattle.poly_place.specs.Chosen.{choice_numbered}
 use Rattle.poly_place.proofs.StandLemmas.{options_long}
 use Rattle.poly_distinct.specs.Moves.{LiesInside}
-use Rattle.poly_distinct.specs.Distinct.{is_at, is_left_in, laying_left, numbers_left}
+use Rattle.poly_distinct.specs.Distinct.{is_at, laying_left, numbers_left}
 
 -- one number more
 more_numbers : (test : ℕ → Bool) (k : ℕ) → filter test (numbers (k + 1) 1) ≡ filter test (numbers k 1) ++ cond (test (k + 1)) ((k + 1) ∷ []) []

@@ -1,5 +1,5 @@
 -- A test tells whether an exchange of names brings each piece to its mirror image.
-use Rattle.std.proofs.Common.{◌≡◌, ℕ, ◌<◌, ◌==◌, Bool, true, false, not, ◌&&◌, ◌||◌, List, map, ◌⊎◌, inl, inr, refl, sym, ap, subst, ◌∙◌, arith, eqb-true, eq-eqb}
+use Rattle.std.proofs.Common.{◌≡◌, ℕ, ◌==◌, Bool, true, not, ◌&&◌, ◌||◌, List, inl, inr, sym, ap, subst, ◌∙◌, arith, eqb-true, eq-eqb}
 use Rattle.std.specs.List.{list_any, list_all, range_with_len}
 use Rattle.std.specs.Cmp.{Equal-is, booleans_Decides}
 use Rattle.std.specs.Ordering.{is_eq}
@@ -16,7 +16,7 @@ use Rattle.poly_texts.specs.Puzzle.{PuzzleValue, IsPuzzle, names_of, has_name, i
 use Rattle.poly_place.specs.Placements.{cells_cmp}
 use Rattle.poly_place.specs.Packings.{is_any}
 use Rattle.poly_place.specs.Swaps.{AreEqual}
-use Rattle.poly_distinct.specs.Distinct.{IsMirrored, Mirrors, are_equal, is_mirrored, mirrors_pieces, keeps_flags, tells_names, are_mirrors}
+use Rattle.poly_distinct.specs.Distinct.{IsMirrored, Mirrors, are_equal, is_mirrored, keeps_flags, tells_names, are_mirrors}
 use Rattle.poly_place.proofs.PlacedLemmas.{has_shapes}
 use Rattle.poly_place.proofs.OrderLemmas.{cells_exact}
 use Rattle.poly_place.proofs.DistinctLemmas.{in_from_name, name_from_in}

@@ -1,29 +1,26 @@
 -- Each packing is brought to a packing by each symmetry that keeps the region, its optional cells and the pieces, once equal pieces are
 -- in order again.
-use Rattle.std.proofs.Common.{◌≡◌, ℕ, Bool, true, List, map, length, inl, inr, refl, sym, ap, subst, ◌∙◌}
+use Rattle.std.proofs.Common.{◌≡◌, ℕ, Bool, List, refl, sym, ap, subst, ◌∙◌}
 use Rattle.poly_cells.specs.Coordinates.{Coordinates}
 use Rattle.poly_cells.specs.Sets.{IsIn}
 use Rattle.poly_cells.proofs.SetLemmas.{in_map, in_from_map}
 use Rattle.cover_problem.specs.Lists.{has}
-use Rattle.cover_problem.specs.Problem.{ProblemValue}
-use Rattle.cover_problem.specs.ExactCover.{IsExactCover}
 use Rattle.cover_problem.proofs.CoverLemmas.{cover_is_path}
 use Rattle.poly_texts.specs.Puzzle.{PuzzleValue, IsPuzzle}
 use Rattle.poly_place.specs.declared.alike.Group.{Group}
 use Rattle.poly_place.specs.Packings.{ChoiceValue, IsPacking, packing_problem, SetStandsFor}
 use Rattle.poly_place.specs.Chosen.{is_among, chosen_by, packing_value}
 use Rattle.poly_place.specs.Classes.{AreAlike}
-use Rattle.poly_place.specs.Swaps.{told_apart, AreEqual, IsSwap}
-use Rattle.poly_place.specs.ClassCount.{image_in}
+use Rattle.poly_place.specs.Swaps.{AreEqual}
 use Rattle.poly_place.specs.Forms.{IsKept}
-use Rattle.poly_distinct.specs.Distinct.{IsPath, IsMoved, image_of, KeepsPieces, image_choice, image_choices}
+use Rattle.poly_distinct.specs.Distinct.{IsPath, IsMoved, KeepsPieces, image_choice, image_choices}
 use Rattle.poly_place.proofs.PlacedLemmas.{has_shapes}
 use Rattle.poly_place.proofs.PackingLemmas.{are_packings, one_packing}
 use Rattle.poly_place.proofs.ChosenLemmas.{cover_packs, cover_stands}
 use Rattle.poly_place.proofs.SwapLemmas.{count_swaps_once}
 use Rattle.poly_place.proofs.ClassLemmas.{alike}
 use Rattle.poly_distinct.proofs.ImagePackingLemmas.{in_from_among, among_from_in, images_pack}
-use Rattle.poly_distinct.proofs.LaidLemmas.{AreApart, LaysImages, parts_alike}
+use Rattle.poly_distinct.proofs.LaidLemmas.{AreApart, parts_alike}
 
 module _ (p : PuzzleValue) (z : IsPuzzle p) where
   -- a path for each packing

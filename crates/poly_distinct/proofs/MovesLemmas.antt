@@ -1,11 +1,10 @@
 -- Symmetries as moves of places: which of them leave a cell where it is, and that they bring cells to lesser ones where they bring the places of
 -- the cells to lesser ones.
-use Rattle.std.proofs.Common.{◌≡◌, ℕ, ◌<◌, ◌==◌, Bool, true, false, not, ◌&&◌, List, [], ◌∷◌, ◌⊎◌, map, length, inl, inr, refl, sym, ap, ap₂, subst, ◌∙◌, arith, Option, None, Some, Ordering, Less, Equal, Greater, eqb-true, eq-eqb, slice_index}
-use Rattle.std.specs.List.{list_all, range_with_len, position_or_len}
-use Rattle.std.specs.List.Sorted.{IsStrictlySortedBy}
+use Rattle.std.proofs.Common.{◌≡◌, ℕ, ◌<◌, ◌==◌, Bool, true, false, not, ◌&&◌, List, [], ◌∷◌, map, length, inl, inr, refl, sym, ap, ap₂, subst, ◌∙◌, arith, Option, Some, Less, Greater, eqb-true, eq-eqb, slice_index}
+use Rattle.std.specs.List.{range_with_len, position_or_len}
 use Rattle.std.specs.Ordering.{is_lt, nat_cmp, ordering_then}
 use Rattle.std.specs.Cmp.{nat_cmp_is, both_ways as same_tests}
-use Rattle.std.proofs.lemmas.Bool.{cases_Bool, both_ways, and_parts, and_from}
+use Rattle.std.proofs.lemmas.Bool.{both_ways, and_parts, and_from}
 use Rattle.std.proofs.lemmas.Cmp.{tied_itself, nat_cmp_total}
 use Rattle.std.proofs.lemmas.List.{length-map, get_or-map}
 use Rattle.std.proofs.lemmas.List.Sums.{passes_at_first}
@@ -20,14 +19,14 @@ use Rattle.poly_texts.specs.Puzzle.{PuzzleValue, IsPuzzle}
 use Rattle.poly_place.specs.declared.alike.Group.{Group}
 use Rattle.poly_place.specs.Placements.{cells_cmp}
 use Rattle.poly_place.specs.Packings.{Thing, a_piece, a_cell, a_node, place_of}
-use Rattle.poly_place.specs.ClassCount.{image_in, images_in}
+use Rattle.poly_place.specs.ClassCount.{image_in}
 use Rattle.poly_place.specs.Forms.{IsKept, AreBelow, AreCarriers, carrier, carried, forms_cmp}
 use Rattle.poly_place.proofs.PlacedLemmas.{has_shapes}
 use Rattle.poly_place.proofs.PlaceLemmas.{place_within, place_rises}
 use Rattle.poly_place.proofs.ChosenLemmas.{nat_exact}
 use Rattle.poly_place.proofs.CarryLemmas.{kept_stays}
 use Rattle.poly_distinct.specs.Distinct.{image_of, is_least, keeps_region}
-use Rattle.poly_distinct.specs.Moves.{AreMoves, HavePlaces, LiesInside, fixed_place, is_least_by, kept_at, leaves_place, leaves_thing, lowers}
+use Rattle.poly_distinct.specs.Moves.{HavePlaces, LiesInside, fixed_place, is_least_by, kept_at, leaves_place, leaves_thing, lowers}
 use Rattle.poly_distinct.proofs.AllowedLemmas.{kept_from, from_kept}
 use mathlib.Core.List.{map-map}
 

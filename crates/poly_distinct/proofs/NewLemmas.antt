@@ -2,7 +2,7 @@
 use Rattle.std.proofs.Common.{◌≡◌, ℕ, zero, suc, ◌+◌, ◌<◌, ◌≤◌, ◌==◌, Bool, true, false, cond, List, [], ◌∷◌, ◌++◌, ◌⊎◌, map, length, inl, inr, refl, sym, ap, ap₂, subst, ◌∙◌, arith}
 use Rattle.std.specs.List.{list_any}
 use Rattle.std.proofs.lemmas.Bool.{cases_Bool, both_ways, cond-true, cond-false}
-use Rattle.std.proofs.lemmas.List.{append_assoc, map-append}
+use Rattle.std.proofs.lemmas.List.{map-append}
 use Rattle.poly_cells.specs.Coordinates.{Coordinates}
 use Rattle.poly_cells.specs.Sets.{IsIn}
 use Rattle.poly_cells.specs.Shapes.{IsShape}
@@ -14,10 +14,8 @@ use Rattle.poly_place.specs.Packings.{ChoiceValue}
 use Rattle.poly_place.specs.Chosen.{PackingValue, packing_value, chosen_by}
 use Rattle.poly_place.specs.Classes.{part_at, AreAlike, IsClassCount}
 use Rattle.poly_place.specs.ClassCount.{image_in, are_alike, count_new, class_count}
-use Rattle.poly_place.specs.Forms.{IsKept}
-use Rattle.poly_distinct.specs.Distinct.{IsPartOf, new_from, IsPath, are_like_paths, distinct_paths, AreUnlike, AreOneOfEach, MeetAll}
+use Rattle.poly_distinct.specs.Distinct.{IsPartOf, new_from, are_like_paths, distinct_paths, AreUnlike, AreOneOfEach, MeetAll}
 use Rattle.poly_place.proofs.PlacedLemmas.{has_shapes}
-use Rattle.poly_place.proofs.FormLemmas.{PartAlike}
 use Rattle.poly_place.proofs.CarryLemmas.{kept_stays, kept_composed, kept_inverse, neutral_kept, neutral_stays}
 use Rattle.poly_place.proofs.ClassLemmas.{AreMatched, matched, alike}
 use Rattle.poly_place.proofs.ClassCountLemmas.{tests_alike, puzzle_classes}

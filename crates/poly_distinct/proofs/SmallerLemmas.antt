@@ -1,8 +1,7 @@
 -- The exact covers of the smaller problem stand for packings, and miss no class.
-use Rattle.std.proofs.Common.{◌≡◌, ℕ, zero, suc, ◌+◌, ◌-◌, ◌<◌, ◌≤◌, nat_le, Bool, true, false, cond, List, [], ◌∷◌, ◌++◌, map, filter, length, get_or, ◌⊎◌, inl, inr, refl, sym, ap, ap₂, subst, ◌∙◌, arith, le-leb, leb-true}
+use Rattle.std.proofs.Common.{◌≡◌, ℕ, zero, suc, ◌+◌, ◌-◌, ◌<◌, ◌≤◌, nat_le, Bool, true, false, cond, List, [], ◌∷◌, ◌++◌, map, filter, length, get_or, inl, inr, refl, sym, ap, ap₂, subst, ◌∙◌, arith, le-leb, leb-true}
 use Rattle.std.specs.Ordering.{nat_cmp}
-use Rattle.std.proofs.lemmas.Bool.{cases_Bool, cond-true, cond-false}
-use Rattle.std.proofs.lemmas.List.{map-append, length-map, length-append, get_or-map}
+use Rattle.std.proofs.lemmas.List.{map-append, length-map, get_or-map}
 use Rattle.poly_cells.specs.Sets.{IsIn, in_order}
 use Rattle.poly_cells.proofs.SetLemmas.{in_map, in_from_map, in_from_order, in_to_order}
 use Rattle.poly_cells.proofs.MemberLemmas.{in_filter, in_from_filter}
@@ -13,7 +12,7 @@ use Rattle.cover_problem.proofs.MemberLemmas.{has_at, has_here, has_later, has_a
 use Rattle.cover_problem.proofs.NumberLemmas.{has_numbers, has_numbers_in, rises_weaker, rises_filter, rises_numbers}
 use Rattle.poly_texts.specs.Puzzle.{PuzzleValue, IsPuzzle}
 use Rattle.poly_place.specs.declared.alike.Group.{Group}
-use Rattle.poly_place.specs.Packings.{ChoiceValue, choice_with, Thing, a_node, every_choice, leavings, option_of, leaving_option, packing_problem, choice_at, leaving_at, laying_count, option_count}
+use Rattle.poly_place.specs.Packings.{ChoiceValue, choice_with, Thing, a_node, every_choice, leavings, option_of, leaving_option, packing_problem, choice_at, laying_count, option_count}
 use Rattle.poly_place.specs.Classes.{AreAlike}
 use Rattle.poly_distinct.proofs.NewLemmas.{like_itself}
 use Rattle.poly_place.specs.Chosen.{PackingValue, packing_value, chosen_by, laying}
@@ -24,7 +23,7 @@ use Rattle.poly_place.proofs.ChosenLemmas.{nat_exact}
 use Rattle.poly_place.proofs.DistinctLemmas.{IsDistinct, distinct_append, distinct_filter, distinct_at}
 use Rattle.poly_distinct.specs.Fewer.{with_options, AreNumbersTo}
 use Rattle.poly_distinct.proofs.AnchorLemmas.{met}
-use Rattle.poly_distinct.proofs.RestrictLemmas.{IsOption, IsCover, AreSame, number_of, path_of, has_in, in_has, has_map, has_from_map, same_from, same_back, same_sorted, cover_up, path_kept, cover_down, same_down, down, same_on, same_map}
+use Rattle.poly_distinct.proofs.RestrictLemmas.{IsOption, AreSame, number_of, has_in, in_has, has_map, has_from_map, same_from, same_back, same_sorted, cover_up, path_kept, cover_down, same_down, down, same_on, same_map}
 
 -- ---- a list by its numbers
 

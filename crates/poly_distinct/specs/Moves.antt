@@ -3,7 +3,7 @@
 --
 -- Example: of the row 0 0 0, 1 0 0, 2 0 0 half a turn brings the places 0 1 2 to 2 1 0, and leaves the cell 1 0 0 where it is
 -- (proofs/DistinctExamples.antt).
-use Rattle.std.specs.Prelude.{◌≡◌, ℕ, ◌<◌, ◌==◌, Bool, true, false, not, ◌&&◌, List, filter, length, slice_index, Option, None, Some}
+use Rattle.std.specs.Prelude.{◌≡◌, ℕ, ◌<◌, ◌==◌, Bool, true, not, ◌&&◌, List, filter, length, slice_index, Option, None, Some}
 use Rattle.std.specs.List.{list_all, range_with_len}
 use Rattle.std.specs.Ordering.{is_lt, nat_cmp}
 use Rattle.poly_cells.specs.Coordinates.{Coordinates}

@@ -1,4 +1,3 @@
-use Rattle.poly_distinct.proofs.DistinctExamples.{stands_for_two}
 use Rattle.poly_distinct.proofs.SmallerLemmas.{all_meet}
 use Rattle.poly_distinct.proofs.laws.whole_problem_meets_all.Goals as goal
 

@@ -1,4 +1,4 @@
-use Rattle.std.proofs.Common.{◌≡◌, ℕ, List, [], map, take, vec_items, Vec}
+use Rattle.std.proofs.Common.{◌≡◌, ℕ, [], map, take, vec_items, Vec}
 use Rattle.std.specs.List.{list_any}
 use Rattle.std.specs.Ordering.{is_eq}
 use Rattle.std.specs.BTreeSet.{contains}

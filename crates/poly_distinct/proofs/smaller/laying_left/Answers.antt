@@ -1,4 +1,4 @@
-use Rattle.std.proofs.Common.{ap, sym, subst, ◌∙◌, arith}
+use Rattle.std.proofs.Common.{ap, subst, ◌∙◌}
 use Rattle.poly_cells.specs.Sets.{IsIn}
 use Rattle.poly_place.proofs.WalkLemmas.{item_in}
 use Rattle.poly_distinct.specs.Distinct.{is_left_in}

@@ -1,4 +1,4 @@
-use Rattle.std.proofs.Common.{ap, ◌∙◌, ◌+◌, ◌++◌, ◌∷◌, [], sym, List, ℕ, arith, append_assoc}
+use Rattle.std.proofs.Common.{ap, ◌∙◌, ◌+◌, ◌++◌, ◌∷◌, [], sym, List, ℕ, append_assoc}
 use Rattle.poly_distinct.proofs.LeftInLemmas.{numbers_more}
 use Rattle.poly_distinct.proofs.smaller.with_numbers.Goals as goal
 

@@ -1,4 +1,4 @@
-use Rattle.std.proofs.Common.{◌≡◌, ◌≤◌, ◌++◌, ◌-◌, ◌+◌}
+use Rattle.std.proofs.Common.{◌≡◌, ◌++◌, ◌-◌, ◌+◌}
 use Rattle.cover_problem.specs.Lists.{numbers}
 use Rattle.poly_distinct.proofs.smaller.with_numbers.Given as goal
 

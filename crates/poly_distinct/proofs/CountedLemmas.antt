@@ -1,18 +1,16 @@
 -- How many packings there are, told by those of the smaller problem.
-use Rattle.std.proofs.Common.{◌≡◌, ℕ, ◌*◌, Bool, true, false, not, List, [], ◌∷◌, ◌⊎◌, map, flat_map, filter, length, get_or, unwrap_or, sum_by, inl, inr, refl, sym, ap, ap₂, subst, subst₂, ◌∙◌, arith, Option, Some, None}
+use Rattle.std.proofs.Common.{◌≡◌, ℕ, ◌*◌, Bool, true, false, not, List, [], ◌∷◌, ◌⊎◌, map, filter, length, get_or, unwrap_or, inl, inr, refl, sym, ap, ap₂, subst, subst₂, ◌∙◌, arith, Option, Some, None}
 use Rattle.std.specs.Ordering.{is_eq, is_lt}
 use Rattle.std.specs.Cmp.{Equal-is}
 use Rattle.std.specs.List.Sorted.{IsStrictlySortedBy}
 use Rattle.std.proofs.lemmas.Bool.{cases_Bool, both_ways, true≢false, false≢true, or_cases}
 use Rattle.std.proofs.lemmas.Cmp.{tied_itself}
-use Rattle.std.proofs.lemmas.List.{length-map}
-use Rattle.std.proofs.lemmas.List.Concat.{length-flat_map}
 use Rattle.std.proofs.lemmas.List.Sums.{sum_by-cons}
 use Rattle.poly_cells.specs.Coordinates.{Coordinates, coordinates_cmp}
 use Rattle.poly_cells.specs.Sets.{IsIn}
 use Rattle.poly_cells.specs.Shapes.{IsShape}
 use Rattle.poly_cells.proofs.SetLemmas.{cases_order, turned_back, in_map, in_from_map, in_from_order, in_to_order, in_order_rises, same_members}
-use Rattle.poly_cells.proofs.MemberLemmas.{in_flat_map, in_from_flat_map, in_filter, in_from_filter, passes, same_function}
+use Rattle.poly_cells.proofs.MemberLemmas.{in_filter, in_from_filter, passes, same_function}
 use Rattle.poly_cells.proofs.CoordinateLemmas.{coordinates_total, coordinates_exact}
 use Rattle.cover_problem.specs.Lists.{has}
 use Rattle.poly_texts.specs.Puzzle.{PuzzleValue, IsPuzzle, names_of}
@@ -26,7 +24,7 @@ use Rattle.poly_place.specs.Forms.{IsKept}
 use Rattle.poly_distinct.specs.Distinct.{image_of, KeepsPieces, is_at, IsAnchor, AreAllowed, HaveInverses, is_least, is_left_in, IsPath, IsMoved, smaller_problem, numbers_left, whole_path, AreTheCovers, AreDifferent, cells_at, images_by, counted}
 use Rattle.poly_place.proofs.PlacedLemmas.{has_shapes}
 use Rattle.poly_place.proofs.OrderLemmas.{cells_total, cells_exact}
-use Rattle.poly_place.proofs.DistinctLemmas.{IsDistinct, distinct_append, distinct_rising}
+use Rattle.poly_place.proofs.DistinctLemmas.{IsDistinct, distinct_rising}
 use Rattle.poly_place.proofs.StandLemmas.{same_group}
 use Rattle.poly_place.proofs.PackingLemmas.{one_cover}
 use Rattle.poly_place.proofs.ChosenLemmas.{cover_packs, cover_stands}
@@ -35,6 +33,7 @@ use Rattle.poly_distinct.proofs.ImagePackingLemmas.{in_from_among, among_from_in
 use Rattle.poly_distinct.proofs.MovedCoverLemmas.{inside_of, moved_path}
 use Rattle.poly_distinct.proofs.AnchorLemmas.{image_twice, anchor_in, anchor_once, goes_to_anchor, left_there, brings_least}
 use Rattle.poly_distinct.proofs.NewLemmas.{no_longer}
+use Rattle.poly_distinct.proofs.PairListLemmas.{pairs_of, with, in_from_pairs, in_pairs, distinct_pairs, length_pairs}
 use Rattle.poly_distinct.proofs.RestrictLemmas.{AreSame, same_on, same_back, same_map, number_of}
 use Rattle.poly_distinct.proofs.SmallerLemmas.{whole_is_path, path_is_whole, same_packing, left_choices, different_whole}
 
@@ -150,43 +149,6 @@ module _ (p : PuzzleValue) (z : IsPuzzle p) where
         let c = anchor_in p z t a (chosen_by p q) (cover_packs p z q e) in
         let d = m.forth c.0 c.1 in
         cells_are r f d.0 d.1 (goes_to_anchor p z group n t a ok.kept ok.names ok.thing c.0 d.0 d.2 d.3 c.2) ∙ d.2 ∙ ap (image_of p.region n) (sym (cells_are q e c.0 c.1 c.2))
-
--- ---- lists of pairs
-
-abbrev pairs_of : {X Y : Type 0} → (X → List Y) → List X → List (X × Y)
-pairs_of f xs = flat_map (λ x. map (λ o. (x, o)) (f x)) xs
-
-module _ {X Y : Type 0} (f : X → List Y) where
-  abbrev with : X → Y → X × Y
-  with x y = (x, y)
-
-  in_from_pairs : (xs : List X) (w : X × Y) → IsIn w (pairs_of f xs) → IsIn w.0 xs × IsIn w.1 (f w.0)
-  in_from_pairs xs w i =
-      let x = in_from_flat_map (λ (x : X). map (with x) (f x)) w xs i in
-      let o = in_from_map (with x.0) w (f x.0) x.2 in
-      let e : w.0 ≡ x.0 = ap (λ (y : X × Y). y.0) o.2 in
-      let g : w.1 ≡ o.0 = ap (λ (y : X × Y). y.1) o.2 in
-      (subst (λ (y : X). IsIn y xs) (sym e) x.1, subst₂ (λ (k : Y) (y : X). IsIn k (f y)) (sym g) (sym e) o.1)
-
-  in_pairs : (xs : List X) (x : X) (o : Y) → IsIn x xs → IsIn o (f x) → IsIn (with x o) (pairs_of f xs)
-  in_pairs xs x o i j = in_flat_map (λ (y : X). map (with y) (f y)) (with x o) x xs i (in_map (with x) o (f x) j)
-
-  distinct_with : (x : X) (os : List Y) → IsDistinct os → IsDistinct (map (with x) os)
-  distinct_with x [] d = tt
-  distinct_with x (o ∷ os) d = ((λ i. let n = in_from_map (with x) (with x o) os i in d.0 (subst (λ (k : Y). IsIn k os) (sym (ap (λ (y : X × Y). y.1) n.2)) n.1)), distinct_with x os d.1)
-
-  distinct_pairs : (xs : List X) → ((x : X) → IsDistinct (f x)) → IsDistinct xs → IsDistinct (pairs_of f xs)
-  distinct_pairs [] each d = tt
-  distinct_pairs (x ∷ xs) each d =
-      distinct_append (map (with x) (f x)) (pairs_of f xs) (distinct_with x (f x) (each x)) (distinct_pairs xs each d.1)
-      (λ w i j.
-      let o = in_from_map (with x) w (f x) i in
-      d.0 (subst (λ (y : X). IsIn y xs) (ap (λ (y : X × Y). y.0) o.2) (in_from_pairs xs w j).0))
-
-  length_pairs : (xs : List X) → length (pairs_of f xs) ≡ sum_by (λ x. length (f x)) xs
-  length_pairs xs =
-      length-flat_map (λ (x : X). map (with x) (f x)) xs
-      ∙ ap (λ (g : X → ℕ). sum_by g xs) (same_function (λ (x : X). length (map (with x) (f x))) (λ (x : X). length (f x)) (λ x. length-map (f x) (with x)))
 
 -- ---- lists of different paths
 

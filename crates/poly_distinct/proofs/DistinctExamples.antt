@@ -9,6 +9,8 @@ use Rattle.poly_place.specs.declared.alike.Group.TheVariants.{Rotations}
 use Rattle.poly_place.specs.Placements.{orientations, placements}
 use Rattle.poly_place.specs.Packings.{every_choice, leavings, choice_with, a_piece, a_cell}
 use Rattle.poly_place.specs.ClassCount.{image_in}
+use Rattle.poly_place.specs.Forms.{carrier}
+use Rattle.poly_distinct.specs.Moves.{kept_at}
 use Rattle.poly_distinct.specs.Distinct.{image_of, allowed, choices_left, numbers_left, whole_path, counted, are_mirrors}
 
 -- the pieces A of two cells and B of one, for a row of three cells: AAB and BAA
@@ -39,6 +41,16 @@ its_symmetries = refl
 of_a_cell : allowed row Rotations false (λ name. name) (a_cell (coordinates 0 0 0)) ≡ 0 ∷ 3 ∷ 9 ∷ 10 ∷ []
 unfolding allowed image_in matrix is_rotation turned normal in_order
 of_a_cell = refl
+
+-- half a turn brings the places of its cells to the places from the other end
+its_carrier : carrier row.region 5 ≡ 2 ∷ 1 ∷ 0 ∷ []
+unfolding image_in matrix
+its_carrier = refl
+
+-- all leave the cell between where it is
+of_the_centre : kept_at row Rotations (a_cell (coordinates 1 0 0)) ≡ 0 ∷ 3 ∷ 5 ∷ 6 ∷ 9 ∷ 10 ∷ 12 ∷ 15 ∷ []
+unfolding kept_at image_in matrix is_rotation turned normal in_order
+of_the_centre = refl
 
 -- A at the first two cells, and B anywhere
 its_choices : choices_left row (a_piece 65) (0 ∷ 5 ∷ []) ≡ choice_with 65 (coordinates 0 0 0 ∷ coordinates 1 0 0 ∷ []) ∷ choice_with 66 (coordinates 0 0 0 ∷ []) ∷ choice_with 66 (coordinates 1 0 0 ∷ []) ∷ choice_with 66 (coordinates 2 0 0 ∷ []) ∷ []

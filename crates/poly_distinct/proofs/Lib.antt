@@ -7,6 +7,7 @@ pub mod KeepLemmas
 pub mod RestrictLemmas
 pub mod SmallerLemmas
 pub mod AllowedLemmas
+pub mod PairListLemmas
 pub mod CountedLemmas
 pub mod DistinctExamples
 pub mod MovesLemmas

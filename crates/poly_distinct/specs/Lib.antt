@@ -1,0 +1,3 @@
+pub mod Distinct
+pub mod Moves
+pub mod Fewer

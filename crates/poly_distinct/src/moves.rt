@@ -1,0 +1,165 @@
+//! The symmetries of a puzzle's region, as moves of the places of its cells.
+ghost use Rattle.std.specs.Prelude.{◌≡◌, ◌<◌, ℕ, Option, Some, List, length, map};
+ghost use Rattle.std.specs.Ordering.{nat_cmp};
+ghost use Rattle.poly_cells.specs.Coordinates.{Coordinates};
+ghost use Rattle.poly_cells.specs.Sets.{IsIn, in_order};
+ghost use Rattle.shared_words.specs.Answers.{Returns, ReturnsItems};
+ghost use Rattle.poly_texts.specs.Lists.{lists_of};
+ghost use Rattle.poly_place.specs.Packings.{place_of};
+ghost use Rattle.poly_place.specs.Forms.{carried, AreBelow};
+ghost use Rattle.poly_distinct.specs.Distinct.{is_least};
+ghost use Rattle.poly_distinct.specs.Moves.{thing_of, kept_at, fixed_place, is_least_by, leaves_place, lowers, LiesInside, HavePlaces};
+
+use crate::anchor::Anchor;
+use poly_cells::Cell;
+use poly_place::{Compiled, Group, bit_index, carriers, cell_places};
+use poly_texts::Puzzle;
+use std::alloc::{AllocError, Global};
+use std::marker::Model;
+
+/// The symmetries of a group that keep a puzzle's region and its optional cells: for each where it brings the places of the region's cells.
+#[derive(Drop)]
+pub struct Moves<'p> {
+    puzzle: &'p Puzzle,
+    group: Group,
+    places: Vec<u32>,
+    carriers: Vec<Vec<usize>>,
+}
+
+impl<'p> Model for Moves<'p> {
+    ghost use Rattle.poly_texts.specs.Lists.{lists_of};
+    ghost use Rattle.poly_distinct.specs.Moves.{MovesValue, AreMoves};
+
+    ghost Value = { MovesValue };
+
+    ghost view = { λ a. record { puzzle = a.puzzle.now; group = a.group } };
+
+    ghost invariant = { λ a. AreMoves a.puzzle.now a.group a.places.items (lists_of a.carriers.items) };
+}
+
+impl<'p> Moves<'p> {
+    /// Those of a puzzle.
+    pub fn of(alloc: Global, compiled: &Compiled<'p>, group: Group) -> Result<Moves<'p>, AllocError>
+        ensures { Returns result (record { puzzle = compiled.now; group = group }) }
+    {
+        let puzzle = compiled.puzzle();
+        puzzle.is_sound();
+        let places = cell_places(alloc, puzzle)?;
+        let carriers = carriers(alloc, puzzle.region(), puzzle.maybe_cells(), group)?;
+        Ok(Moves {
+            puzzle,
+            group,
+            places,
+            carriers,
+        })
+    }
+
+    /// Whether none of those that leave the anchor where it is brings the cells to lesser ones.
+    pub fn is_first(
+        &self,
+        alloc: Global,
+        anchor: &Anchor,
+        cells: &[Cell],
+    ) -> Result<bool, AllocError>
+        requires anchor { LiesInside self.now.puzzle (thing_of anchor.now) }
+        requires inside { (v : Coordinates) → IsIn v cells.now → IsIn v self.now.puzzle.region }
+        ensures { Returns result (is_least self.now.puzzle.region
+            (kept_at self.now.puzzle self.now.group (thing_of anchor.now)) cells.now) }
+    {
+        let places = self.places_of(alloc, cells)?;
+        let fixed = self.fixed(anchor);
+        let carriers = self.carriers.as_slice();
+        let list = places.as_slice();
+        is_least(alloc, carriers, fixed, list)
+    }
+
+    /// The place of each of the cells.
+    fn places_of(&self, alloc: Global, cells: &[Cell]) -> Result<Vec<usize>, AllocError>
+        requires { (v : Coordinates) → IsIn v cells.now → IsIn v self.now.puzzle.region }
+        ensures { ReturnsItems result (map (place_of self.now.puzzle.region) cells.now) }
+    {
+        let mut places = Vec::with_capacity(alloc, cells.len())?;
+        for cell in cells {
+            places.push(self.place_of(*cell))?;
+        }
+        Ok(places)
+    }
+
+    /// How many of the region's cells come before this one.
+    fn place_of(&self, cell: Cell) -> usize
+        requires { IsIn cell self.now.puzzle.region }
+        ensures { result ≡ place_of self.now.puzzle.region cell }
+    {
+        self.places[bit_index(cell.x(), cell.y(), cell.z())] as usize - 1
+    }
+
+    /// The place that a move has to leave where it is.
+    fn fixed(&self, anchor: &Anchor) -> Option<usize>
+        requires { LiesInside self.now.puzzle (thing_of anchor.now) }
+        ensures { result ≡ fixed_place self.now.puzzle.region (thing_of anchor.now) }
+    {
+        match anchor {
+            Anchor::Piece(_) => None,
+            Anchor::Cell(cell) => Some(self.place_of(*cell)),
+        }
+    }
+}
+
+/// Whether no carrier that leaves this place where it is brings the places to lesser ones.
+fn is_least(
+    alloc: Global,
+    carriers: &[Vec<usize>],
+    fixed: Option<usize>,
+    places: &[usize],
+) -> Result<bool, AllocError>
+    requires { HavePlaces fixed places.now (lists_of carriers.now) }
+    ensures { Returns result (is_least_by fixed places.now (lists_of carriers.now)) }
+{
+    for carrier in carriers {
+        if leaves(carrier.as_slice(), fixed) && lowers(alloc, carrier.as_slice(), places)? {
+            return Ok(false);
+        }
+    }
+    Ok(true)
+}
+
+/// Whether a carrier leaves this place where it is.
+fn leaves(carrier: &[usize], fixed: Option<usize>) -> bool
+    requires { (k : ℕ) → fixed ≡ Some k → k < length carrier.now }
+    ensures { result ≡ leaves_place fixed carrier.now }
+{
+    match fixed {
+        None => true,
+        Some(place) => carrier[place] == place,
+    }
+}
+
+/// Whether a carrier brings the places, put in order, to lesser ones.
+fn lowers(alloc: Global, carrier: &[usize], places: &[usize]) -> Result<bool, AllocError>
+    requires { AreBelow (length carrier.now) places.now }
+    ensures { Returns result (lowers places.now carrier.now) }
+{
+    let mut there = carried(alloc, carrier, places)?;
+    put_in_order(&mut there);
+    Ok(there.as_slice().cmp(&places).is_lt())
+}
+
+/// Where a carrier brings the places, in the same order.
+fn carried(alloc: Global, carrier: &[usize], places: &[usize]) -> Result<Vec<usize>, AllocError>
+    requires { AreBelow (length carrier.now) places.now }
+    ensures { ReturnsItems result (carried carrier.now places.now) }
+{
+    let mut there = Vec::with_capacity(alloc, places.len())?;
+    for place in places {
+        there.push(carrier[*place])?;
+    }
+    Ok(there)
+}
+
+/// Puts places in order, each once.
+fn put_in_order(places: &mut Vec<usize>)
+    ensures { places.new.items ≡ in_order nat_cmp places.old.items }
+{
+    places.sort_unstable();
+    places.dedup();
+}

@@ -3,8 +3,8 @@
 
 // The colour of a piece: the one that the text chooses for its name, or its own.
 function colourOf(names) {
-  const all = [...new Set([...studio.lines.pieces.map(it => it.names[0]), names[0]])].sort();
-  return DATA.colours[names[0]] || DATA.palette[all.indexOf(names[0]) % DATA.palette.length];
+  const name = symbolsOf(names)[0], all = [...new Set([...studio.lines.pieces.flatMap(it => symbolsOf(it.names)), name])].sort();
+  return DATA.colours[name] || DATA.palette[all.indexOf(name) % DATA.palette.length];
 }
 
 // A piece that is still without cells: it has no line yet.

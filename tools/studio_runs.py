@@ -15,7 +15,7 @@ TOOLS = os.path.dirname(os.path.realpath(__file__))
 # The bound is set by a shell, which is then what it bounds; where setpriv is here, the process ends with whoever began it, also where that is killed.
 BOUND = 'ulimit -S -v "$1"; shift; exec %s"$@"' % ("setpriv --pdeathsig KILL " if shutil.which("setpriv") else "")
 # A script that is called works for so many seconds at most.
-PATIENCE = 120
+PATIENCE = 300
 
 
 class Runs:

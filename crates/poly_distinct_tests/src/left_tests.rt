@@ -199,6 +199,6 @@ fn left_of_three(alloc: Global) -> Result<Vec<u32>, Fail> {
 
 #[test]
 fn half_a_turn_leaves_out_the_second_place(rt: HostRuntime) -> Result<(), Fail> {
-    assert!(rt; left_of_three(rt.alloc())?.as_slice() == [1, 3, 4, 5]);
+    assert!(rt; left_of_three(rt.alloc())?.as_slice() == [1, 3, 4, 5].as_slice());
     Ok(())
 }

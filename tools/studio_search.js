@@ -109,8 +109,10 @@ async function showFound() {
     const {address, shown, of} = await askedFor("show", {title: search.of || studio.title});
     const all = counted(of, "packing") + (search.now.of ? ", one of each class" : "");
     showFrame(address, shown < of ? "The first " + many(shown) + " of " + many(of) + " that were found" : all);
-  } finally { isShowing = false; }
-  if (showsAgain) await showFound();
+  } finally {
+    isShowing = false;
+    if (showsAgain) trying(showFound);
+  }
 }
 
 async function showSteps() {

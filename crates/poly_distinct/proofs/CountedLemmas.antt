@@ -49,9 +49,6 @@ equal_on p z a b c x y =
       ]
     ]
 
-equal_back : (p : PuzzleValue) (a b : ℕ) → AreEqual p a b → AreEqual p b a
-equal_back p a b x = elim x [ inl e ↦ inl (sym e) | inr g ↦ inr (g.0, g.1, g.3, g.2) ]
-
 -- ---- a packing is told by what it is brought to
 
 module _ (p : PuzzleValue) (z : IsPuzzle p) where

@@ -17,6 +17,7 @@ complete -c polylab -n '__fish_seen_subcommand_from solve count cover' -l worker
 complete -c polylab -n '__fish_seen_subcommand_from solve cover' -l first -x -d 'stop at this one, with one worker'
 complete -c polylab -n '__fish_seen_subcommand_from solve count cover resume' -l table -x -a 'links bits' -d 'the table of the search'
 complete -c polylab -n '__fish_seen_subcommand_from count' -l classes -d 'count up to rotations and symmetries too'
+complete -c polylab -n '__fish_seen_subcommand_from solve count options' -l up-to -x -a 'rotations symmetries' -d 'one of each class'
 complete -c polylab -n '__fish_seen_subcommand_from debug explain' -l cover -d 'the problem is a cover text'
 complete -c polylab -n '__fish_seen_subcommand_from resume' -l steps -x -d 'steps to take at most'
 complete -c polylab -n '__fish_seen_subcommand_from resume' -l list -d 'list the visits too'

@@ -15,13 +15,13 @@ find_files() {
         at=$((at + 1))
         case $dashes:$1 in
             0:--) dashes=$at ;;
-            0:--workers | 0:--first | 0:--table | 0:--steps)
+            0:--workers | 0:--first | 0:--table | 0:--steps | 0:--up-to)
                 # (what follows is the option's number or word, and not a file)
                 [ $# -gt 1 ] || return
                 at=$((at + 1))
                 shift
                 ;;
-            0:--workers=* | 0:--first=* | 0:--table=* | 0:--steps=* | 0:--classes | 0:--cover | 0:--list) ;;
+            0:--workers=* | 0:--first=* | 0:--table=* | 0:--steps=* | 0:--up-to=* | 0:--classes | 0:--cover | 0:--list) ;;
             0:-?*)
                 [ "$1" = - ] || { files=0; return; }
                 ;;

@@ -204,3 +204,23 @@ module _ (p : PuzzleValue) (z : IsPuzzle p) where
               let c = kept_inverse group p.region p.maybe_cells m shape l.kept in
               (c.0, listed c.0 c.1 (inr r.1) (back_keeps t a m c.0 l.kept c.1 l.thing c.2 (inr r.0)), c.2)
         ]
+
+-- ---- where reflections don't count and the thing is a piece
+
+module _ (p : PuzzleValue) (z : IsPuzzle p) (group : Group) (s : ℕ → ℕ) (name : ℕ) where
+  pub rotation_listed : (n : ℕ) → IsKept Rotations p.region p.maybe_cells n → IsIn n (allowed p group false s (a_piece name))
+  unfolding allowed
+  rotation_listed n k =
+      in_filter (is_allowed p group false s (a_piece name)) n (range_with_len 0 48) (let lt = k.limit in in_to_range n 0 48 (omega arith) (omega (arith, lt)))
+      (and_from _ _ (from_kept p z group n (as_member p z group n k))
+      (and_from (is_rotation n || false) (is_rotation n || (s name == name)) (or_left (is_rotation n) false k.member) (or_left (is_rotation n) (s name == name) k.member)))
+
+  pub listed_rotation : (n : ℕ) → IsIn n (allowed p group false s (a_piece name)) → IsKept Rotations p.region p.maybe_cells n
+  unfolding allowed
+  listed_rotation n i =
+      let f = in_from_filter (is_allowed p group false s (a_piece name)) n (range_with_len 0 48) i in
+      let lt = in_from_range n 0 48 f.0 in
+      let one = and_parts (keeps_region p group n) ((is_rotation n || false) && (is_rotation n || (s name == name))) f.1 in
+      let two = and_parts (is_rotation n || false) (is_rotation n || (s name == name)) one.1 in
+      let r : is_rotation n ≡ true = elim (or_cases (is_rotation n) false two.0) [ inl x ↦ x | inr x ↦ absurd (both_ways false refl x) ] in
+      as_rotation p z group n r (kept_from p z group n (omega (arith, lt)) one.0)

@@ -19,7 +19,7 @@ use Rattle.poly_place.specs.Classes.{AreAlike}
 use Rattle.poly_place.specs.Swaps.{AreEqual}
 use Rattle.poly_place.specs.ClassCount.{image_in}
 use Rattle.poly_place.specs.Forms.{IsKept}
-use Rattle.poly_distinct.specs.Distinct.{IsPath, IsMoved, image_of, CarriesPieces, is_at, IsAnchor, KeepsThing, AreAllowed, is_least, is_left_in}
+use Rattle.poly_distinct.specs.Distinct.{IsPath, IsMoved, image_of, KeepsPieces, is_at, IsAnchor, KeepsThing, AreAllowed, is_least, is_left_in}
 use Rattle.poly_place.proofs.PlacedLemmas.{has_shapes}
 use Rattle.poly_place.proofs.OrderLemmas.{cells_total}
 use Rattle.poly_place.proofs.DistinctLemmas.{in_from_name}
@@ -114,7 +114,7 @@ module _ (p : PuzzleValue) (z : IsPuzzle p) where
     named c i = let h = (cover_packs p z q e).placed c (among_from_in (chosen_by p q) c i) in in_map (λ (m : ℕ × List Coordinates). m.0) (c.name, h.piece) p.pieces h.named
 
     -- what is brought to the anchor comes from it
-    comes_from_anchor : (t : Thing) → IsAnchor p t → (k : IsKept group p.region p.maybe_cells n) (s : ℕ → ℕ) → CarriesPieces p s n → KeepsThing p s n t
+    comes_from_anchor : (t : Thing) → IsAnchor p t → (k : IsKept group p.region p.maybe_cells n) (s : ℕ → ℕ) → KeepsPieces p s n → KeepsThing p s n t
         → (c d : ChoiceValue) → IsIn c (chosen_by p q) → d.cells ≡ image_of p.region n c.cells → AreEqual p d.name (s c.name) → is_at t d ≡ true → is_at t c ≡ true
     comes_from_anchor (a_piece name) a k s keeps fixed c d i cells equal at =
         let here = eqb-true d.name name at in

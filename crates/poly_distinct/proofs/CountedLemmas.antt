@@ -21,7 +21,7 @@ use Rattle.poly_place.specs.Chosen.{PackingValue, is_among, chosen_by}
 use Rattle.poly_place.specs.Swaps.{AreEqual, IsSwap}
 use Rattle.poly_place.specs.ClassCount.{image_in}
 use Rattle.poly_place.specs.Forms.{IsKept}
-use Rattle.poly_distinct.specs.Distinct.{image_of, CarriesPieces, is_at, IsAnchor, AreAllowed, HaveInverses, is_least, is_left_in, IsPath, IsMoved, smaller_problem, numbers_left, whole_path, AreTheCovers, AreDifferent, cells_at, images_by, images_counted}
+use Rattle.poly_distinct.specs.Distinct.{image_of, KeepsPieces, is_at, IsAnchor, AreAllowed, HaveInverses, is_least, is_left_in, IsPath, IsMoved, smaller_problem, numbers_left, whole_path, AreTheCovers, AreDifferent, cells_at, images_by, counted}
 use Rattle.poly_place.proofs.PlacedLemmas.{has_shapes}
 use Rattle.poly_place.proofs.OrderLemmas.{cells_total, cells_exact}
 use Rattle.poly_place.proofs.DistinctLemmas.{IsDistinct, distinct_rising}
@@ -49,6 +49,9 @@ equal_on p z a b c x y =
       ]
     ]
 
+equal_back : (p : PuzzleValue) (a b : ℕ) → AreEqual p a b → AreEqual p b a
+equal_back p a b x = elim x [ inl e ↦ inl (sym e) | inr g ↦ inr (g.0, g.1, g.3, g.2) ]
+
 -- ---- a packing is told by what it is brought to
 
 module _ (p : PuzzleValue) (z : IsPuzzle p) where
@@ -71,7 +74,7 @@ module _ (p : PuzzleValue) (z : IsPuzzle p) where
             let w = from_image group p.region p.maybe_cells n region k (image_in p.region n v) ys there in
             subst (λ (u : Coordinates). IsIn u ys) (sym (tells group p.region p.maybe_cells n region k v w.0 (i v h) (j w.0 w.1) w.2)) w.1
 
-    module _ (s : ℕ → ℕ) (keeps : CarriesPieces p s n) (q r t : List ℕ) (e : IsPath p q) (f : IsPath p r) (m : IsMoved p s n q t) (l : IsMoved p s n r t) where
+    module _ (s : ℕ → ℕ) (keeps : KeepsPieces p s n) (q r t : List ℕ) (e : IsPath p q) (f : IsPath p r) (m : IsMoved p s n q t) (l : IsMoved p s n r t) where
       swap_of : (c : ChoiceValue) → IsIn c (chosen_by p q) → (d : ChoiceValue) × IsIn d (chosen_by p r) × (d.cells ≡ c.cells) × AreEqual p c.name d.name
       swap_of c i =
           let b = m.forth c i in
@@ -91,7 +94,7 @@ module _ (p : PuzzleValue) (z : IsPuzzle p) where
       (subst (λ (chosen : ChoiceValue → Bool). SetStandsFor p (has q) chosen) (same_function (is_among (chosen_by p q)) (is_among (chosen_by p r)) h) (cover_stands p z q e))
       (cover_stands p z r f)
 
-  module _ (group : Group) (n : ℕ) (k : IsKept group p.region p.maybe_cells n) (s : ℕ → ℕ) (keeps : CarriesPieces p s n) where
+  module _ (group : Group) (n : ℕ) (k : IsKept group p.region p.maybe_cells n) (s : ℕ → ℕ) (keeps : KeepsPieces p s n) where
     pub moved_tells : (q r t : List ℕ) → IsPath p q → IsPath p r → IsMoved p s n q t → IsMoved p s n r t → AreSame q r
     moved_tells q r t e f m l =
         let a = cover_packs p z q e in
@@ -149,7 +152,7 @@ module _ (p : PuzzleValue) (z : IsPuzzle p) where
 
 -- ---- lists of different paths
 
-different_once : (qs : List (List ℕ)) → AreDifferent qs → (q r : List ℕ) → IsIn q qs → IsIn r qs → AreSame q r → q ≡ r
+pub different_once : (qs : List (List ℕ)) → AreDifferent qs → (q r : List ℕ) → IsIn q qs → IsIn r qs → AreSame q r → q ≡ r
 different_once [] d q r i j a = absurd i
 different_once (x ∷ xs) d q r i j a =
     elim i [
@@ -163,7 +166,7 @@ different_once (x ∷ xs) d q r i j a =
       ]
     ]
 
-different_distinct : (qs : List (List ℕ)) → AreDifferent qs → IsDistinct qs
+pub different_distinct : (qs : List (List ℕ)) → AreDifferent qs → IsDistinct qs
 different_distinct [] d = tt
 different_distinct (x ∷ xs) d = ((λ i. d.0 x i (λ o. refl)), different_distinct xs d.1)
 
@@ -386,8 +389,8 @@ module _ (p : PuzzleValue) (z : IsPuzzle p) (group : Group) (t : Thing) (a : IsA
           ap₂ (λ (y : List ℕ) (us : List Coordinates). let v : List ℕ × List Coordinates = (y, us) in v) path cells
 
       module _ (all : List (List ℕ)) (whole : AreTheCovers (packing_problem p) all) (apart : AreDifferent all) where
-        pub counts : length all ≡ images_counted p t ns wholes
-        unfolding images_counted
+        pub counts : length all ≡ counted p t ns wholes
+        unfolding counted
         counts =
             let here = no_longer Matches all pairs (different_distinct all apart) (λ q i. forth q (whole.sound q i))
             (λ q r w i j k l m. different_once all apart q r i j (brought_once q r w.0 w.1 (cells_at p t w.0) (whole.sound q i) (whole.sound r j) l.1 m.1)) in
@@ -403,8 +406,8 @@ module _ (p : PuzzleValue) (z : IsPuzzle p) (group : Group) (t : Thing) (a : IsA
 
 -- ---- where each stands for as many
 
-pub counted_same : (p : PuzzleValue) (t : Thing) (ns : List ℕ) (paths : List (List ℕ)) (k : ℕ) → ((q : List ℕ) → IsIn q paths → length (images_by p.region ns (cells_at p t q)) ≡ k) → images_counted p t ns paths ≡ length paths * k
-unfolding images_counted
+pub counted_same : (p : PuzzleValue) (t : Thing) (ns : List ℕ) (paths : List (List ℕ)) (k : ℕ) → ((q : List ℕ) → IsIn q paths → length (images_by p.region ns (cells_at p t q)) ≡ k) → counted p t ns paths ≡ length paths * k
+unfolding counted
 counted_same p t ns [] k h = omega arith
 counted_same p t ns (q ∷ qs) k h =
     let one = h q (inl refl) in

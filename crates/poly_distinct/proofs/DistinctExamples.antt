@@ -11,7 +11,7 @@ use Rattle.poly_place.specs.Packings.{every_choice, leavings, choice_with, a_pie
 use Rattle.poly_place.specs.ClassCount.{image_in}
 use Rattle.poly_place.specs.Forms.{carrier}
 use Rattle.poly_distinct.specs.Moves.{kept_at}
-use Rattle.poly_distinct.specs.Distinct.{image_of, allowed, choices_left, numbers_left, whole_path, images_counted, are_mirrors}
+use Rattle.poly_distinct.specs.Distinct.{image_of, allowed, choices_left, numbers_left, whole_path, counted, are_mirrors}
 
 -- the pieces A of two cells and B of one, for a row of three cells: AAB and BAA
 abbrev pub row : PuzzleValue
@@ -66,8 +66,8 @@ its_path : whole_path row (a_piece 65) (0 ∷ 5 ∷ []) (1 ∷ 4 ∷ []) ≡ 1 �
 unfolding every_choice leavings placements orientations in_order turned normal rotations is_rotation matrix image_in
 its_path = refl
 
-pub stands_for_two : images_counted row (a_piece 65) (0 ∷ 5 ∷ []) ((1 ∷ 5 ∷ []) ∷ []) ≡ 2
-unfolding images_counted every_choice placements orientations in_order turned normal rotations is_rotation matrix image_in
+pub stands_for_two : counted row (a_piece 65) (0 ∷ 5 ∷ []) ((1 ∷ 5 ∷ []) ∷ []) ≡ 2
+unfolding counted every_choice placements orientations in_order turned normal rotations is_rotation matrix image_in
 stands_for_two = refl
 
 -- ---- mirror images

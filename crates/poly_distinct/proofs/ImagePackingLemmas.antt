@@ -16,7 +16,7 @@ use Rattle.poly_place.specs.Chosen.{is_among, same_choice}
 use Rattle.poly_place.specs.Swaps.{told_apart}
 use Rattle.poly_place.specs.ClassCount.{image_in}
 use Rattle.poly_place.specs.Forms.{IsKept}
-use Rattle.poly_distinct.specs.Distinct.{image_of, CarriesPieces, image_choice, image_choices}
+use Rattle.poly_distinct.specs.Distinct.{image_of, KeepsPieces, image_choice, image_choices}
 use Rattle.poly_place.proofs.PlacedLemmas.{has_shapes}
 use Rattle.poly_place.proofs.PackingLemmas.{same_choice_is, same_choice_itself}
 use Rattle.poly_place.proofs.CarryLemmas.{kept_stays, kept_inverse, maps_at}
@@ -63,7 +63,7 @@ module _ (group : Group) (vs ms : List Coordinates) (n : ℕ) (s : IsShape vs) (
 
 -- ---- the images of a packing
 
-module _ (p : PuzzleValue) (z : IsPuzzle p) (group : Group) (n : ℕ) (k : IsKept group p.region p.maybe_cells n) (s : ℕ → ℕ) (keeps : CarriesPieces p s n) where
+module _ (p : PuzzleValue) (z : IsPuzzle p) (group : Group) (n : ℕ) (k : IsKept group p.region p.maybe_cells n) (s : ℕ → ℕ) (keeps : KeepsPieces p s n) where
   shape : IsShape p.region
   shape = (has_shapes p z).region
 

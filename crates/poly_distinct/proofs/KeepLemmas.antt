@@ -22,7 +22,7 @@ use Rattle.poly_place.specs.Placements.{turns_by}
 use Rattle.poly_place.specs.Packings.{turns_of}
 use Rattle.poly_place.specs.ClassCount.{image_in}
 use Rattle.poly_place.specs.Forms.{IsKept}
-use Rattle.poly_distinct.specs.Distinct.{image_of, CarriesPieces, Mirrors}
+use Rattle.poly_distinct.specs.Distinct.{image_of, KeepsPieces, Mirrors}
 use Rattle.poly_place.proofs.PlacedLemmas.{has_shapes}
 use Rattle.poly_place.proofs.CarryLemmas.{one_after, image_point}
 use Rattle.poly_distinct.proofs.ImagePackingLemmas.{stays, in_image, from_image}
@@ -96,7 +96,7 @@ module _ (p : PuzzleValue) (z : IsPuzzle p) (group : Group) (n : ℕ) (k : IsKep
   shape = (has_shapes p z).region
 
   -- rotations keep each piece
-  pub rotation_keeps : is_rotation n ≡ true → CarriesPieces p (λ name. name) n
+  pub rotation_keeps : is_rotation n ≡ true → KeepsPieces p (λ name. name) n
   rotation_keeps r = record {
     placed = λ name piece cells i a.
         let m = a.symmetry in
@@ -123,7 +123,7 @@ module _ (p : PuzzleValue) (z : IsPuzzle p) (group : Group) (n : ℕ) (k : IsKep
   }
 
   -- and reflections where pieces are exchanged for their mirror images
-  pub reflection_keeps : (s : ℕ → ℕ) → Mirrors p s → is_rotation n ≡ false → CarriesPieces p s n
+  pub reflection_keeps : (s : ℕ → ℕ) → Mirrors p s → is_rotation n ≡ false → KeepsPieces p s n
   reflection_keeps s y r = record {
     placed = λ name piece cells i a.
         let m = a.symmetry in

@@ -13,7 +13,7 @@ use Rattle.poly_place.specs.Chosen.{is_among, chosen_by, packing_value}
 use Rattle.poly_place.specs.Classes.{AreAlike}
 use Rattle.poly_place.specs.Swaps.{AreEqual}
 use Rattle.poly_place.specs.Forms.{IsKept}
-use Rattle.poly_distinct.specs.Distinct.{IsPath, IsMoved, CarriesPieces, image_choice, image_choices}
+use Rattle.poly_distinct.specs.Distinct.{IsPath, IsMoved, KeepsPieces, image_choice, image_choices}
 use Rattle.poly_place.proofs.PlacedLemmas.{has_shapes}
 use Rattle.poly_place.proofs.PackingLemmas.{are_packings, one_packing}
 use Rattle.poly_place.proofs.ChosenLemmas.{cover_packs, cover_stands}
@@ -52,7 +52,7 @@ module _ (p : PuzzleValue) (z : IsPuzzle p) where
   pub inside_of : (q : List ℕ) → IsPath p q → (c : ChoiceValue) → IsIn c (chosen_by p q) → (v : Coordinates) → IsIn v c.cells → IsIn v p.region
   inside_of q e c i v j = ((cover_packs p z q e).placed c (among_from_in (chosen_by p q) c i)).placed.inside v j
 
-  module _ (group : Group) (n : ℕ) (k : IsKept group p.region p.maybe_cells n) (s : ℕ → ℕ) (keeps : CarriesPieces p s n) (q : List ℕ) (e : IsPath p q) where
+  module _ (group : Group) (n : ℕ) (k : IsKept group p.region p.maybe_cells n) (s : ℕ → ℕ) (keeps : KeepsPieces p s n) (q : List ℕ) (e : IsPath p q) where
     pub moved_path : (r : List ℕ) × IsPath p r × IsMoved p s n q r
     moved_path =
         let cs = chosen_by p q in

@@ -1,3 +1,6 @@
 pub mod Distinct
-pub mod Moves
 pub mod Fewer
+pub mod Moves
+pub mod Exchange
+pub mod Rule
+pub mod UpTo

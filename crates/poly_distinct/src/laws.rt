@@ -11,24 +11,24 @@ ghost use Rattle.poly_place.specs.Classes.{AreAlike, IsClassCount};
 ghost use Rattle.poly_place.specs.ClassCount.{are_alike, class_count};
 ghost use Rattle.poly_place.specs.Forms.{IsKept, AreCarriers};
 ghost use Rattle.poly_distinct.specs.Fewer.{with_options, AreNumbersTo};
-ghost use Rattle.poly_distinct.specs.Distinct.{CarriesPieces, Mirrors, IsAnchor, AreAllowed, IsPath, IsMoved, AreTheCovers, MeetAll, AreOneOfEach};
-ghost use Rattle.poly_distinct.specs.Distinct.{smaller_problem, whole_path, distinct_paths, allowed, HaveInverses, AreDifferent, images_counted, images_by, cells_at, numbers_left, new_by_keys, are_mirrors, IsPartOf};
+ghost use Rattle.poly_distinct.specs.Distinct.{KeepsPieces, Mirrors, IsAnchor, AreAllowed, IsPath, IsMoved, AreTheCovers, MeetAll, AreOneOfEach};
+ghost use Rattle.poly_distinct.specs.Distinct.{smaller_problem, whole_path, distinct_paths, allowed, HaveInverses, AreDifferent, counted, images_by, cells_at, numbers_left, new_by_keys, are_mirrors, IsPartOf};
 
 /// Each rotation of the region that keeps the optional cells keeps the pieces, with their names; and so does each reflection, where pieces
 /// are exchanged for their mirror images.
 pub fn symmetries_keep_pieces()
     ensures rotations { (p : PuzzleValue) (group : Group) (n : ℕ) → IsPuzzle p
         → IsKept group p.region p.maybe_cells n
-        → is_rotation n ≡ true → CarriesPieces p (λ name. name) n }
+        → is_rotation n ≡ true → KeepsPieces p (λ name. name) n }
     ensures reflections { (p : PuzzleValue) (group : Group) (n : ℕ) (s : ℕ → ℕ) → IsPuzzle p
         → IsKept group p.region p.maybe_cells n
-        → Mirrors p s → is_rotation n ≡ false → CarriesPieces p s n }
+        → Mirrors p s → is_rotation n ≡ false → KeepsPieces p s n }
 {}
 
 /// A symmetry that keeps the pieces brings each packing to a packing, once equal pieces are in order again, and the two are alike.
 pub fn packings_are_moved()
     ensures { (p : PuzzleValue) (group : Group) (n : ℕ) (s : ℕ → ℕ) (q : List ℕ) → IsPuzzle p
-        → IsKept group p.region p.maybe_cells n → CarriesPieces p s n
+        → IsKept group p.region p.maybe_cells n → KeepsPieces p s n
         → IsPath p q → (r : List ℕ) × IsPath p r × IsMoved p s n q r
         × AreAlike group (packing_value p q) (packing_value p r) }
 {}
@@ -95,7 +95,7 @@ pub fn packings_are_counted()
         → IsPuzzle p → IsAnchor p t → AreAllowed p group t ns
         → HaveInverses p ns → AreTheCovers (packing_problem p) all → AreDifferent all
         → AreTheCovers (smaller_problem p t ns) small → AreDifferent small
-        → length all ≡ images_counted p t ns (map (whole_path p t ns) small) }
+        → length all ≡ counted p t ns (map (whole_path p t ns) small) }
 {}
 
 /// Where the symmetries bring the cells at the thing to as many sets of cells in each packing of the smaller problem, the puzzle has so
@@ -103,7 +103,7 @@ pub fn packings_are_counted()
 pub fn free_anchors_multiply()
     ensures { (p : PuzzleValue) (t : Thing) (ns : List ℕ) (paths : List (List ℕ)) (k : ℕ)
         → ((q : List ℕ) → IsIn q paths → length (images_by p.region ns (cells_at p t q)) ≡ k)
-        → images_counted p t ns paths ≡ length paths * k }
+        → counted p t ns paths ≡ length paths * k }
 {}
 
 /// The numbers of the options that are left in rise.

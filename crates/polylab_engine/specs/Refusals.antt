@@ -40,6 +40,9 @@ puzzle_faults (puzzle_jobs.First n) May = NoPool
 puzzle_faults puzzle_jobs.Count May = May
 puzzle_faults puzzle_jobs.Classes May = May
 puzzle_faults puzzle_jobs.Options May = NoPool
+puzzle_faults (puzzle_jobs.SolveUpTo group) May = May
+puzzle_faults (puzzle_jobs.CountUpTo group) May = May
+puzzle_faults (puzzle_jobs.OptionsUpTo group) May = NoPool
 puzzle_faults puzzle_jobs.Debug May = MayEnd
 
 -- the same of any job

@@ -20,6 +20,7 @@ use crate::job::{CoverJob, Job, PuzzleJob};
 use crate::packed::{count, first_packings, options, solve};
 use crate::resumption::resume;
 use crate::tables::TableKind;
+use crate::up_to::{count_up_to, options_up_to, solve_up_to};
 use crate::workers::Workers;
 use cover_problem::{CoverFault, Problem, read_cover};
 use debug_language::write_snapshot_fault;
@@ -263,6 +264,9 @@ fn packed_text<W: Workers>(
         PuzzleJob::Count => count::<W>(alloc, workers, compiled),
         PuzzleJob::Classes => count_classes::<W>(alloc, workers, compiled),
         PuzzleJob::Options => Ok(options(alloc, compiled)?),
+        PuzzleJob::SolveUpTo(group) => solve_up_to::<W>(alloc, workers, compiled, group),
+        PuzzleJob::CountUpTo(group) => count_up_to::<W>(alloc, workers, compiled, group),
+        PuzzleJob::OptionsUpTo(group) => Ok(options_up_to(alloc, compiled, group)?),
         PuzzleJob::Debug => workers.replies(alloc, compiled.problem(), commands),
     }
 }

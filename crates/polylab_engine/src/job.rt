@@ -2,6 +2,8 @@
 ghost use Rattle.std.specs.Prelude.{◌≡◌};
 ghost use Rattle.polylab_engine.specs.Jobs.{is_first, takes_commands};
 
+use poly_place::Group;
+
 /// What the program is asked to do with its input.
 #[derive(Clone, Copy, Debug, PartialEq, Eq)]
 pub enum Job {
@@ -37,6 +39,12 @@ pub enum PuzzleJob {
     Classes,
     /// Write the cover text whose exact covers are its packings.
     Options,
+    /// Show one packing of each class: of those that symmetries of the group carry onto one another.
+    SolveUpTo(Group),
+    /// Count its packings and these classes, by a search that leaves out what symmetries repeat.
+    CountUpTo(Group),
+    /// Write the cover text of that search.
+    OptionsUpTo(Group),
     /// Take its search by commands, which follow it.
     Debug,
 }

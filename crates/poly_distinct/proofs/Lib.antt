@@ -11,6 +11,7 @@ pub mod PairListLemmas
 pub mod CountedLemmas
 pub mod DistinctExamples
 pub mod MovesLemmas
+pub mod FormLemmas
 pub mod LeftInLemmas
 pub mod KeysTellLemmas
 pub mod MirrorLemmas

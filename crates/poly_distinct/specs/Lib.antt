@@ -1,3 +1,4 @@
 pub mod Distinct
 pub mod Moves
 pub mod Fewer
+pub mod Tables

@@ -1,57 +1,96 @@
-//! Forms of packings: their parts as lists of numbers, the least of which is the same for packings that are alike.
-ghost use Rattle.std.specs.Prelude.{◌≡◌, ◌≤◌, ◌<◌, ◌∷◌, length, map};
-ghost use Rattle.shared_words.specs.Answers.{ReturnsItems};
+//! Forms of packings, each made in one pass over the cells of the region: the least of them is the same for packings that are alike.
+ghost use Rattle.std.specs.Prelude.{◌≡◌, ◌+◌, ◌≤◌, ◌<◌, IfOk, length, replicate};
+ghost use Rattle.poly_cells.specs.Coordinates.{Coordinates};
+ghost use Rattle.poly_cells.specs.Sets.{IsIn};
+ghost use Rattle.cover_problem.specs.Answers.{ReturnsItems};
 ghost use Rattle.poly_texts.specs.Lists.{lists_of};
-ghost use Rattle.poly_place.specs.Classes.{part_at};
+ghost use Rattle.poly_texts.specs.Puzzle.{IsPuzzle};
+ghost use Rattle.poly_place.specs.Packings.{place_of};
+ghost use Rattle.poly_place.specs.Compiled.{ArePlaces};
 ghost use Rattle.poly_place.specs.Forms.{carried, first_form, least_form, parts_in, AreBelow, AllAreBelow};
-ghost use Rattle.poly_place.specs.Chosen.{place_in};
+ghost use Rattle.poly_distinct.specs.Tables.{painted, AreFirsts, LieInside};
 
+use crate::moves::carried;
 use poly_cells::Cell;
-use poly_place::Choice;
+use poly_place::{Choice, bit_index};
+use poly_texts::Puzzle;
 use std::alloc::{AllocError, Global};
 
-/// The part of each cell of the region.
+/// The part of each cell of the region, by a table of the places of its cells.
 pub fn parts_in(
     alloc: Global,
-    region: &[Cell],
+    puzzle: &Puzzle,
+    places: &[u32],
     placements: &[Choice],
 ) -> Result<Vec<usize>, AllocError>
-    ensures { ReturnsItems result (parts_in region.now placements.now) }
+    requires puzzle { IsPuzzle puzzle.now }
+    requires places { ArePlaces puzzle.now places.now }
+    requires inside { LieInside puzzle.now.region placements.now }
+    ensures { ReturnsItems result (parts_in puzzle.now.region placements.now) }
 {
-    let mut parts = Vec::with_capacity(alloc, region.len())?;
-    for cell in region {
-        parts.push(part_at(placements, *cell))?;
+    let count = placements.len();
+    let mut parts = zeros(alloc, puzzle.region().cells().len())?;
+    for k in 0..count {
+        // A cell that two have is of the first one's part, which is painted last.
+        let choice = &placements[count - 1 - k];
+        parts = painted(puzzle, places, parts, choice.cells(), k + 1);
     }
     Ok(parts)
 }
 
-/// Which placement has the cell: how many are left from it on, and 0 where none has it.
-fn part_at(placements: &[Choice], cell: Cell) -> usize
-    ensures { result ≡ part_at placements.now cell }
+/// So many zeros.
+fn zeros(alloc: Global, count: usize) -> Result<Vec<usize>, AllocError>
+    ensures { ReturnsItems result (replicate count 0) }
 {
-    let mut left = placements.len();
-    for placement in placements {
-        if placement.cells().contains(&cell) {
-            return left;
-        }
-        left -= 1;
-    }
-    0
+    vec![in alloc; 0usize; count]
 }
 
-/// The least of the forms of these parts, carried in each way.
+/// The parts after these cells became cells of a part.
+fn painted(
+    puzzle: &Puzzle,
+    places: &[u32],
+    parts: Vec<usize>,
+    cells: &[Cell],
+    part: usize,
+) -> Vec<usize>
+    requires places { ArePlaces puzzle.now places.now }
+    requires long { (v : Coordinates) → IsIn v cells.now → place_of puzzle.now.region v < length parts.items }
+    requires inside { (v : Coordinates) → IsIn v cells.now → IsIn v puzzle.now.region }
+    ensures { result.items ≡ painted puzzle.now.region part cells.now parts.items }
+{
+    let mut parts = parts;
+    for cell in cells {
+        let place = place_of(puzzle, places, *cell);
+        parts[place] = part;
+    }
+    parts
+}
+
+/// How many of the region's cells come before this one.
+fn place_of(puzzle: &Puzzle, places: &[u32], cell: Cell) -> usize
+    requires places { ArePlaces puzzle.now places.now }
+    requires inside { IsIn cell puzzle.now.region }
+    ensures { result ≡ place_of puzzle.now.region cell }
+{
+    places[bit_index(cell.x(), cell.y(), cell.z())] as usize - 1
+}
+
+/// The least of the forms of these parts, each below `size`, carried in each way.
 pub fn least_form(
     alloc: Global,
     parts: &[usize],
     carriers: &[Vec<usize>],
+    size: usize,
 ) -> Result<Vec<usize>, AllocError>
-    requires { AllAreBelow (length parts.now) (lists_of carriers.now) }
+    requires some { 0 < size }
+    requires below { AreBelow size parts.now }
+    requires carriers { AllAreBelow (length parts.now) (lists_of carriers.now) }
     ensures { ReturnsItems result (least_form parts.now (lists_of carriers.now)) }
 {
-    let mut best = first_form(alloc, parts)?;
+    let mut best = first_form(alloc, parts, size)?;
     for carrier in carriers {
         let there = carried(alloc, parts, carrier.as_slice())?;
-        let form = first_form(alloc, there.as_slice())?;
+        let form = first_form(alloc, there.as_slice(), size)?;
         if form.cmp(&best).is_lt() {
             best = form;
         }
@@ -59,50 +98,29 @@ pub fn least_form(
     Ok(best)
 }
 
-/// The numbers at these places.
-fn carried(alloc: Global, numbers: &[usize], places: &[usize]) -> Result<Vec<usize>, AllocError>
-    requires { AreBelow (length numbers.now) places.now }
-    ensures { ReturnsItems result (carried numbers.now places.now) }
-{
-    let mut there = Vec::with_capacity(alloc, places.len())?;
-    for place in places {
-        there.push(numbers[*place])?;
-    }
-    Ok(there)
-}
-
 /// For each number where it stands first, from 1 on, and 0 for 0.
-fn first_form(alloc: Global, numbers: &[usize]) -> Result<Vec<usize>, AllocError>
+fn first_form(alloc: Global, numbers: &[usize], size: usize) -> Result<Vec<usize>, AllocError>
+    requires some { 0 < size }
+    requires below { AreBelow size numbers.now }
     ensures { ReturnsItems result (first_form numbers.now) }
 {
-    let mut form = Vec::with_capacity(alloc, numbers.len())?;
-    for number in numbers {
-        form.push(form_at(numbers, *number))?;
-    }
-    Ok(form)
+    let firsts = firsts(alloc, numbers, size)?;
+    carried(alloc, firsts.as_slice(), numbers)
 }
 
-/// Where the number stands first, from 1 on, and 0 for 0.
-fn form_at(numbers: &[usize], number: usize) -> usize
-    ensures { result ≡ place_in (0 ∷ numbers.now) number }
+/// A table of where each number stands first, from 1 on, and 0 for 0.
+fn firsts(alloc: Global, numbers: &[usize], size: usize) -> Result<Vec<usize>, AllocError>
+    requires some { 0 < size }
+    requires below { AreBelow size numbers.now }
+    ensures { IfOk result (λ table. AreFirsts numbers.now size table.items) }
 {
-    if number == 0 {
-        return 0;
+    let count = numbers.len();
+    let mut table = zeros(alloc, size)?;
+    for k in 0..count {
+        // What is noted last is where a number stands first.
+        let place = count - 1 - k;
+        table[numbers[place]] = place + 1;
     }
-    1 + place_in(numbers, number)
-}
-
-/// How many of the numbers come before this one.
-fn place_in(numbers: &[usize], number: usize) -> usize
-    ensures value { result ≡ place_in numbers.now number }
-    ensures limit { result ≤ length numbers.now }
-{
-    let mut place = 0;
-    for other in numbers {
-        if *other == number {
-            return place;
-        }
-        place += 1;
-    }
-    place
+    table[0] = 0;
+    Ok(table)
 }

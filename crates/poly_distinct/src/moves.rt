@@ -3,7 +3,7 @@ ghost use Rattle.std.specs.Prelude.{◌≡◌, ◌<◌, ℕ, Option, Some, List,
 ghost use Rattle.std.specs.Ordering.{nat_cmp};
 ghost use Rattle.poly_cells.specs.Coordinates.{Coordinates};
 ghost use Rattle.poly_cells.specs.Sets.{IsIn, in_order};
-ghost use Rattle.shared_words.specs.Answers.{Returns, ReturnsItems};
+ghost use Rattle.cover_problem.specs.Answers.{Returns, ReturnsItems};
 ghost use Rattle.poly_texts.specs.Lists.{lists_of};
 ghost use Rattle.poly_place.specs.Packings.{place_of};
 ghost use Rattle.poly_place.specs.Forms.{carried, AreBelow};
@@ -39,7 +39,11 @@ impl<'p> Model for Moves<'p> {
 
 impl<'p> Moves<'p> {
     /// Those of a puzzle.
-    pub fn of(alloc: Global, compiled: &Compiled<'p>, group: Group) -> Result<Moves<'p>, AllocError>
+    pub fn of(
+        alloc: Global,
+        compiled: &Compiled<'p>,
+        group: Group,
+    ) -> Result<Moves<'p>, AllocError>
         ensures { Returns result (record { puzzle = compiled.now; group = group }) }
     {
         let puzzle = compiled.puzzle();
@@ -145,7 +149,7 @@ fn lowers(alloc: Global, carrier: &[usize], places: &[usize]) -> Result<bool, Al
 }
 
 /// Where a carrier brings the places, in the same order.
-fn carried(alloc: Global, carrier: &[usize], places: &[usize]) -> Result<Vec<usize>, AllocError>
+pub fn carried(alloc: Global, carrier: &[usize], places: &[usize]) -> Result<Vec<usize>, AllocError>
     requires { AreBelow (length carrier.now) places.now }
     ensures { ReturnsItems result (carried carrier.now places.now) }
 {

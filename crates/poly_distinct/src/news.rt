@@ -1,9 +1,11 @@
 //! Packings that are like none before them.
 ghost use Rattle.std.specs.Prelude.{length};
-ghost use Rattle.shared_words.specs.Lists.{has};
+ghost use Rattle.cover_problem.specs.Lists.{has};
 ghost use Rattle.cover_problem.specs.ExactCover.{IsExactCover};
-ghost use Rattle.shared_words.specs.Answers.{Returns, ReturnsItems};
+ghost use Rattle.cover_problem.specs.Answers.{Returns, ReturnsItems};
 ghost use Rattle.poly_texts.specs.Lists.{lists_of};
+ghost use Rattle.poly_texts.specs.Puzzle.{IsPuzzle};
+ghost use Rattle.poly_place.specs.Compiled.{ArePlaces};
 ghost use Rattle.poly_place.specs.Packings.{packing_problem};
 ghost use Rattle.poly_place.specs.Chosen.{packing_value};
 ghost use Rattle.poly_place.specs.Forms.{key_of, AllAreBelow};
@@ -12,8 +14,7 @@ ghost use Rattle.poly_distinct.specs.Distinct.{distinct_paths};
 
 use crate::forms::{least_form, parts_in};
 use cover_problem::Lists;
-use poly_cells::Cell;
-use poly_place::{Compiled, Group, carriers, packing_of};
+use poly_place::{Compiled, Group, carriers, cell_places, packing_of};
 use std::alloc::{AllocError, Global};
 use std::collections::BTreeSet;
 
@@ -30,11 +31,13 @@ pub fn distinct_paths(
     let _sound = compiled.choices();
     let region = compiled.region();
     let carriers = carriers(alloc, region, compiled.maybe_cells(), group)?;
-    let cells = region.cells();
+    let list = carriers.as_slice();
+    let cells = cell_places(alloc, compiled.puzzle())?;
+    let places = cells.as_slice();
     let mut keys: BTreeSet<Vec<usize>> = BTreeSet::new(alloc);
     let mut news = Lists::new(alloc);
     for k in 0..paths.len() {
-        let key = key(alloc, compiled, cells, carriers.as_slice(), paths.list(k))?;
+        let key = key(alloc, compiled, places, list, paths.list(k))?;
         if keys.insert(key)? {
             news.push(paths.list(k))?;
         }
@@ -46,16 +49,19 @@ pub fn distinct_paths(
 fn key(
     alloc: Global,
     compiled: &Compiled<'_>,
-    cells: &[Cell],
+    places: &[u32],
     carriers: &[Vec<usize>],
     path: &[u32],
 ) -> Result<Vec<usize>, AllocError>
     requires cover { IsExactCover (packing_problem compiled.now) (has path.now) }
-    requires carriers { AllAreBelow (length cells.now) (lists_of carriers.now) }
+    requires puzzle { IsPuzzle compiled.now }
+    requires places { ArePlaces compiled.now places.now }
+    requires carriers { AllAreBelow (length compiled.now.region) (lists_of carriers.now) }
     ensures { ReturnsItems result
-        (key_of cells.now (lists_of carriers.now) (packing_value compiled.now path.now)) }
+        (key_of compiled.now.region (lists_of carriers.now) (packing_value compiled.now path.now)) }
 {
     let packing = packing_of(alloc, compiled, path)?;
-    let parts = parts_in(alloc, cells, packing.placements())?;
-    least_form(alloc, parts.as_slice(), carriers)
+    let placements = packing.placements();
+    let parts = parts_in(alloc, compiled.puzzle(), places, placements)?;
+    least_form(alloc, parts.as_slice(), carriers, placements.len() + 1)
 }

@@ -28,7 +28,7 @@ PIECES = {"y": "000 100 200 300 110", "w": "000 100 110 210 220", "p": "000 100 
 TEXTS = [
     "y-any-32x30", "y-any-20x20", "y-any-10x10x10", "y-any-12x12x12", "twelve-20x20", "twelve-32x32", "l-any-60x60", "l-any-20x20", "t-any-24x24",
     "w-any-20x20", "p-any-40x40", "l-any-8x8x8", "t-any-6x6x6", "d-any-8x8", "d-any-30x30", "d-any-64x62", "d-any-8x8x8", "d-any-12x12x12",
-    "v-mirror-9x9x3", "s-mirror-6x6x6", "blocks-24x24", "blocks-32x30", "soma-cube", "pentominoes-6x10", "cube-4", "fives-5x5x5", "bricks-6x6x6",
+    "v-mirror-9x9x3", "s-mirror-6x6x6", "blocks-24x24", "blocks-32x30", "soma-cube", "pentominoes-10x6", "cube-4", "fives-5x5x5", "bricks-6x6x6",
     "copies-box", "copies-cube", "y-holes-copies", "x-holes-named", "two-16x16x16", "langford-12", "langford-20", "langford-40", "langford-60",
     "latin-6", "latin-12", "latin-20", "latin-30", "queens-16", "queens-50", "queens-100", "queens-200", "sudoku-9", "sudoku-16", "sudoku-25",
     "permutations-9", "permutations-40", "partitions-12", "chain-300x20", "chain-2800x8", "windows-200x20", "windows-2000x12", "triples-13",

@@ -1,4 +1,4 @@
--- The examples of specs/Classes.antt and specs/Forms.antt, computed.
+-- The examples of specs/Classes.antt, specs/Forms.antt and specs/FormTables.antt, computed.
 use Rattle.std.proofs.Common.{◌≡◌, List, [], ◌∷◌, map, inl, inr, refl, sym, subst, arith}
 use Rattle.poly_cells.specs.Coordinates.{Coordinates, coordinates, IsInGrid, coordinates_cmp}
 use Rattle.poly_cells.specs.Symmetries.{matrix, is_rotation}
@@ -12,6 +12,7 @@ use Rattle.poly_place.specs.Chosen.{PackingValue}
 use Rattle.poly_place.specs.Classes.{AreAlike, part_at}
 use Rattle.poly_place.specs.ClassCount.{image_in, carries, are_alike, class_count}
 use Rattle.poly_place.specs.Forms.{first_form}
+use Rattle.poly_place.specs.FormTables.{firsts_from}
 use Rattle.poly_place.proofs.FormLemmas.{alike_form}
 use Rattle.poly_place.proofs.ClassLemmas.{alike}
 
@@ -64,6 +65,9 @@ both_are_alike =
 a_form : first_form (2 ∷ 0 ∷ 2 ∷ 1 ∷ []) ≡ 1 ∷ 0 ∷ 1 ∷ 4 ∷ []
 unfolding first_form
 a_form = refl
+
+its_table : firsts_from 0 (2 ∷ 0 ∷ 2 ∷ 1 ∷ []) (0 ∷ 0 ∷ 0 ∷ []) ≡ 2 ∷ 4 ∷ 1 ∷ []
+its_table = refl
 
 -- the packing of the row that reads ABC
 abbrev apart : PackingValue

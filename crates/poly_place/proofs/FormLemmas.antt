@@ -60,7 +60,3 @@ alike_form {V} cells f g h = record {
 
     among : (k : V → ℕ) (v : V) → IsIn v cells → IsIn (k v) (0 ∷ map k cells)
     among k v i = inr (in_map k v cells i)
-
-pub form_is : (xs : List ℕ) → map (place_in (0 ∷ xs)) xs ≡ first_form xs
-unfolding first_form
-form_is xs = refl

@@ -42,6 +42,7 @@ pub mod LeftLemmas
 pub mod LayerExamples
 pub mod KeyCountLemmas
 pub mod FormLemmas
+pub mod FormTableLemmas
 pub mod PieceOrderLemmas
 pub mod KeyLemmas
 pub mod CarryLemmas

@@ -10,8 +10,8 @@ use Rattle.poly_cells.specs.Images.{HasSymmetry}
 use Rattle.poly_cells.proofs.SetLemmas.{in_map, in_from_map, in_append_left, in_append_right, in_append_cases, take_next}
 use Rattle.poly_cells.specs.CellTests.{is_same, has_cell}
 use Rattle.poly_place.specs.declared.alike.Group.{Group}
-use Rattle.poly_place.specs.Packings.{ChoiceValue, place_of}
-use Rattle.poly_place.specs.Classes.{is_member, part_at}
+use Rattle.poly_place.specs.Packings.{place_of}
+use Rattle.poly_place.specs.Classes.{is_member}
 use Rattle.poly_place.specs.ClassCount.{image_in, images_in}
 use Rattle.poly_place.specs.Forms.{carrier, IsKept, AreCarriers, lesser, form_by, least_from}
 use Rattle.poly_place.proofs.CarryLemmas.{image_stays}
@@ -27,28 +27,6 @@ from_here {X} xs i x lt is = at_drop_more (λ ys. ys) xs i x lt ∙ ap (λ (y : 
 pub has_turned : (vs : List Coordinates) (v : Coordinates) → list_any (λ w. is_same w v) vs ≡ has_cell vs v
 has_turned [] v = refl
 has_turned (w ∷ ws) v = ap₂ (λ a b. a || b) (is_same_symmetric w v) (has_turned ws v)
-
--- ---- the part of a cell
-
-pub part_found : (cs : List ChoiceValue) (i : ℕ) (c : ChoiceValue) (v : Coordinates) (left : ℕ) (vs : List Coordinates) (found : Bool) → i < length cs → c ≡ get_or cs i c
-    → part_at (drop i cs) v ≡ part_at cs v → left ≡ length (drop i cs) → vs ≡ c.cells → found ≡ list_any (λ w. is_same w v) vs → found ≡ true → left ≡ part_at cs v
-part_found cs i c v left vs found lt is rest count cells value t =
-    let here = from_here cs i c lt is in
-    let has : has_cell c.cells v ≡ true = sym (value ∙ has_turned vs v ∙ ap (λ (ws : List Coordinates). has_cell ws v) cells) ∙ t in
-    count ∙ ap length here ∙ sym (ap (λ b. cond b (length (c ∷ drop (i + 1) cs)) (part_at (drop (i + 1) cs) v)) has) ∙ ap (λ ds. part_at ds v) (sym here) ∙ rest
-
-pub part_later : (cs : List ChoiceValue) (i : ℕ) (c : ChoiceValue) (v : Coordinates) (vs : List Coordinates) (found : Bool) → i < length cs → c ≡ get_or cs i c
-    → part_at (drop i cs) v ≡ part_at cs v → vs ≡ c.cells → found ≡ list_any (λ w. is_same w v) vs → found ≡ false → part_at (drop (i + 1) cs) v ≡ part_at cs v
-part_later cs i c v vs found lt is rest cells value f =
-    let here = from_here cs i c lt is in
-    let has : has_cell c.cells v ≡ false = sym (value ∙ has_turned vs v ∙ ap (λ (ws : List Coordinates). has_cell ws v) cells) ∙ f in
-    sym (ap (λ b. cond b (length (c ∷ drop (i + 1) cs)) (part_at (drop (i + 1) cs) v)) has) ∙ ap (λ ds. part_at ds v) (sym here) ∙ rest
-
-one_less : (n l : ℕ) (cs : List ChoiceValue) (c : ChoiceValue) → l ≡ length (c ∷ cs) → l - 1 ≡ length cs
-one_less n l cs c h = omega arith
-
-pub left_less : (cs : List ChoiceValue) (i : ℕ) (c : ChoiceValue) (left : ℕ) → i < length cs → c ≡ get_or cs i c → left ≡ length (drop i cs) → left - 1 ≡ length (drop (i + 1) cs)
-left_less cs i c left lt is count = one_less 0 left (drop (i + 1) cs) c (count ∙ ap length (from_here cs i c lt is))
 
 -- ---- the least form
 

@@ -1,11 +1,11 @@
 -- The number of each item: by a table for cells, by their places for pieces and nodes.
-use Rattle.std.proofs.Common.{ap₂, cond, ◌≡◌, ℕ, ◌+◌, ◌<◌, ◌≤◌, List, [], ◌∷◌, ◌++◌, map, length, take, true, not, inl, inr, refl, sym, ap, subst, ◌∙◌, arith, slice_set, Bool, false, ◌&&◌, ◌==◌, zero, suc, ◌-◌, ◌*◌, ◌^◌, flat_map, get_or}
+use Rattle.std.proofs.Common.{ap₂, cond, ◌≡◌, ℕ, ◌+◌, ◌<◌, ◌≤◌, List, [], ◌∷◌, ◌++◌, map, length, take, true, not, inl, inr, refl, sym, ap, subst, ◌∙◌, arith, slice_set, Bool, false, ◌&&◌, ◌==◌, zero, suc, ◌-◌, ◌*◌, ◌^◌, flat_map, get_or, replicate, slice_index_or}
 use Rattle.std.proofs.Math.ListN.{length-set}
 use Rattle.std.proofs.lemmas.Bool.{and_parts, and_from, cases_Bool, not_from_false, both_ways, not-true, cond-true, cases_lt, eq-eqb, cases_eq, ne_eqb}
 use Rattle.std.proofs.lemmas.List.{get_or-set_same, get_or-set_other, take_at, length-map}
 use Rattle.poly_cells.specs.Coordinates.{Coordinates, IsInGrid}
 use Rattle.poly_cells.specs.Sets.{IsIn}
-use Rattle.poly_cells.specs.Shapes.{AllInGrid}
+use Rattle.poly_cells.specs.Shapes.{AllInGrid, IsShape}
 use Rattle.poly_cells.proofs.CoordinateLemmas.{coordinates_total, is_same_Decides}
 use Rattle.poly_cells.proofs.SetLemmas.{in_append_left, in_append_cases, in_map, in_from_map, in_at}
 use Rattle.poly_cells.proofs.CellTestLemmas.{in_from_has, has_from_in, is_same_symmetric}
@@ -13,7 +13,7 @@ use Rattle.poly_cells.specs.CellTests.{is_same, has_cell}
 use Rattle.poly_texts.specs.Puzzle.{PuzzleValue, IsPuzzle, names_of, has_name}
 use Rattle.poly_place.specs.Packings.{must_fill, Thing, a_piece, a_cell, same_thing, needed_things, index_among, thing_item, a_node, other_things, pairs, tree_levels, nodes, is_any, place_of}
 use Rattle.poly_place.specs.Tables.{bit_index}
-use Rattle.poly_place.specs.Compiled.{needed_names, filled_cells, item_number_at, numbered, AreNumbers, before_nodes, ArePlaces}
+use Rattle.poly_place.specs.Compiled.{needed_names, filled_cells, item_number_at, numbered, AreNumbers, before_nodes, ArePlaces, ArePlacesOf}
 use Rattle.poly_cells.proofs.MemberLemmas.{passes, in_from_filter, in_filter, same_map, in_to_range}
 use Rattle.poly_place.proofs.DistinctLemmas.{in_from_name, IsDistinct, distinct_filter, distinct_rising}
 use Rattle.poly_place.proofs.TableLemmas.{low, bit_index_same}
@@ -178,16 +178,23 @@ module _ (p : PuzzleValue) (z : IsPuzzle p) where
             ];
       }
 
-  -- ---- places, by a table
+-- ---- places, by a table
 
-  pub are_places : (base : List ℕ) → length base ≡ 32768 → ArePlaces p (numbered base 1 p.region)
-  are_places base long = record {
-    long = numbered_long base 1 p.region ∙ long;
-    same = λ v i.
-        let at = numbered_in v base 1 p.region long z.limits (distinct_rising coordinates_total p.region z.rises) i in
-        let place = place_by p.region v in
-        omega (arith, at, place);
-  }
+zero_at : (n k : ℕ) → slice_index_or (replicate n zero) k zero ≡ zero
+zero_at zero k = refl
+zero_at (suc n) zero = refl
+zero_at (suc n) (suc k) = zero_at n k
+
+are_places : (region : List Coordinates) (base : List ℕ) (size : ℕ) → IsShape region → base ≡ replicate size 0 → length base ≡ 32768 → ArePlacesOf region (numbered base 1 region)
+are_places region base size s zeros long = record {
+  long = numbered_long base 1 region ∙ long;
+  same = λ v i.
+      let at = numbered_in v base 1 region long s.limits (distinct_rising coordinates_total region s.rises) i in
+      let place = place_by region v in
+      omega (arith, at, place);
+  others = λ v g none.
+      numbered_other v base 1 region g s.limits none ∙ ap (λ (b : List ℕ). item_number_at b v) zeros ∙ zero_at size (bit_index v);
+}
 
 -- ---- the loops
 
@@ -205,12 +212,16 @@ written_numbers p z base one old new all left later cells empty first second siz
     ∙ ap (numbered (numbered base (first + 1) (filled_cells p)) (second + 1)) is_empty in
     subst (AreNumbers p) (sym same) (are_numbers p z base first second long f s)
 
-pub written_places : (p : PuzzleValue) → IsPuzzle p → (base one all left : List ℕ) (cells : List Coordinates) (size : ℕ) → length base ≡ 32768 → length base ≡ size → cells ≡ p.region
-    → one ≡ numbered base (0 + 1) cells → all ≡ take size (one ++ left) → ArePlaces p all
-written_places p z base one all left cells size long sized is_region made whole =
-    let one_long : length one ≡ size = ap length made ∙ numbered_long base (0 + 1) cells ∙ sized in
-    let same : all ≡ numbered base 1 p.region = whole ∙ take_at one left size one_long ∙ made ∙ ap (numbered base 1) is_region in
-    subst (ArePlaces p) (sym same) (are_places p z base long)
+pub written_places : (region : List Coordinates) (base one all left : List ℕ) (count size : ℕ) → IsShape region → base ≡ replicate count 0 → length base ≡ 32768 → length base ≡ size
+    → one ≡ numbered base (0 + 1) region → all ≡ take size (one ++ left) → ArePlacesOf region all
+written_places region base one all left count size s zeros long sized made whole =
+    let one_long : length one ≡ size = ap length made ∙ numbered_long base (0 + 1) region ∙ sized in
+    let same : all ≡ numbered base 1 region = whole ∙ take_at one left size one_long ∙ made in
+    subst (ArePlacesOf region) (sym same) (are_places region base count s zeros long)
+
+-- the places of a puzzle are those of its region
+pub places_by_region : (p : PuzzleValue) (places : List ℕ) → ArePlacesOf p.region places → ArePlaces p places
+places_by_region p places are = record { long = are.long; same = are.same }
 
 -- ---- in one tree
 

@@ -1,15 +1,20 @@
 -- A region's table: one bit more for one cell more, and the same answers as the region itself.
-use Rattle.std.proofs.Common.{◌≡◌, ℕ, zero, suc, ◌+◌, ◌*◌, ◌<◌, ◌≤◌, List, [], ◌∷◌, ◌++◌, length, get_or, take, Bool, true, false, ◌&&◌, ◌||◌, nat_le, inl, inr, refl, sym, ap, subst, ◌∙◌, arith, replicate, slice_set, slice_index_or, append_assoc}
+use Rattle.std.proofs.Common.{◌≡◌, ℕ, zero, suc, ◌+◌, ◌*◌, ◌<◌, ◌≤◌, List, [], ◌∷◌, ◌++◌, length, get_or, take, Bool, true, false, ◌&&◌, ◌||◌, nat_le, inl, inr, refl, sym, ap, subst, ◌∙◌, arith, replicate, slice_set, slice_index_or, append_assoc, ◌⊎◌, Ordering, Less, Equal, Greater, nat_cmp}
 use Rattle.std.proofs.Math.ListN.{length-set, length-replicate}
 use Rattle.std.proofs.lemmas.Bool.{and_from, leb-true, le-leb, cases_Bool, and_parts, or_right, and_right}
 use Rattle.std.proofs.lemmas.List.{get_or-set_same, get_or-set_other, take_at}
 use Rattle.std.proofs.lemmas.List.Folds.{list_any-append}
-use Rattle.poly_cells.specs.Coordinates.{Coordinates, IsInGrid}
+use Rattle.std.specs.List.Sorted.{IsStrictlySortedBy}
+use Rattle.std.specs.Ordering.{ordering_then}
+use Rattle.std.proofs.lemmas.Bool.Decides.{nat_tests}
+use Rattle.poly_cells.specs.Coordinates.{Coordinates, IsInGrid, coordinates_cmp}
+use Rattle.poly_cells.specs.Sets.{IsIn}
+use Rattle.poly_cells.specs.Shapes.{AllInGrid, IsShape}
 use Rattle.poly_cells.proofs.CoordinateLemmas.{same_coordinates, is_same_Decides}
 use Rattle.poly_cells.specs.CellTests.{is_same, has_cell}
 use Rattle.poly_place.specs.Tables.{bit_index, has_bit, IsCellTable}
 use Rattle.std.proofs.Math.Bool.{or-false}
-use Rattle.poly_cells.proofs.SetLemmas.{take_next}
+use Rattle.poly_cells.proofs.SetLemmas.{take_next, rising_head, rising_tail}
 
 -- ---- the place of a bit tells the cell
 
@@ -28,6 +33,44 @@ bit_index_same v w h g e =
     let low_parts : 32 * v.y + v.z ≡ 32 * w.y + w.z = omega (arith, x, e) in
     let y = same_y v.y v.z w.y w.z h.z_in g.z_in low_parts in
     same_coordinates v.x v.y v.z w.x w.y w.z x y (omega (arith, y, low_parts))
+
+-- ---- how many cells there are in the grid
+
+nat_less : (m n : ℕ) → nat_cmp m n ≡ Less → m < n
+nat_less m n h = grind (arith, nat_tests)
+
+nat_same : (m n : ℕ) → nat_cmp m n ≡ Equal → m ≡ n
+nat_same m n h = grind (arith, nat_tests)
+
+first_less : (a b : Ordering) → ordering_then a b ≡ Less → (a ≡ Less) ⊎ ((a ≡ Equal) × (b ≡ Less))
+first_less Less b h = inl refl
+first_less Equal b h = inr (refl, h)
+first_less Greater b h = cc
+
+bit_rises : (v w : Coordinates) → IsInGrid v → IsInGrid w → coordinates_cmp v w ≡ Less → bit_index v < bit_index w
+bit_rises v w g h less =
+    let y = g.y_in in
+    let z = g.z_in in
+    elim (first_less (nat_cmp v.x w.x) (ordering_then (nat_cmp v.y w.y) (nat_cmp v.z w.z)) less) [
+      | inl a ↦ let lt = nat_less v.x w.x a in omega arith
+      | inr b ↦
+          let same = nat_same v.x w.x b.0 in
+          elim (first_less (nat_cmp v.y w.y) (nat_cmp v.z w.z) b.1) [
+            | inl c ↦ let lt = nat_less v.y w.y c in omega arith
+            | inr d ↦ let also = nat_same v.y w.y d.0 in let lt = nat_less v.z w.z d.1 in omega arith
+          ]
+    ]
+
+few_from : (v : Coordinates) (vs : List Coordinates) → IsStrictlySortedBy coordinates_cmp (v ∷ vs) → AllInGrid (v ∷ vs) → bit_index v + length (v ∷ vs) ≤ 32768
+few_from v [] rises all = let b = low v (all v (inl refl)) in omega (arith, b)
+few_from v (w ∷ ws) rises all =
+    let rest = few_from w ws (rising_tail coordinates_cmp v (w ∷ ws) rises) (λ u i. all u (inr i)) in
+    let less = bit_rises v w (all v (inl refl)) (all w (inr (inl refl))) (rising_head coordinates_cmp v (w ∷ ws) rises w (inl refl)) in
+    omega (arith, rest, less)
+
+pub few_in_grid : (vs : List Coordinates) → IsShape vs → length vs ≤ 32768
+few_in_grid [] s = omega arith
+few_in_grid (v ∷ vs) s = let few = few_from v vs s.rises s.limits in omega (arith, few)
 
 -- ---- tests
 

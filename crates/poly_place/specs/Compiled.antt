@@ -1,7 +1,7 @@
 -- How the items of a puzzle's problem are numbered, by tables of cells and by the places of nodes, and when there is room for its options.
 use Rattle.std.specs.Prelude.{◌≡◌, ℕ, ◌+◌, ◌^◌, ◌≤◌, ◌==◌, nat_le, Bool, cond, not, ◌&&◌, List, [], ◌∷◌, ◌++◌, map, filter, flat_map, length, sum_by, slice_index_or, slice_set}
 use Rattle.std.specs.List.{list_all}
-use Rattle.poly_cells.specs.Coordinates.{Coordinates}
+use Rattle.poly_cells.specs.Coordinates.{Coordinates, IsInGrid}
 use Rattle.poly_cells.specs.Sets.{IsIn}
 use Rattle.poly_texts.specs.Puzzle.{PuzzleValue, names_of, is_needed, is_spare}
 use Rattle.cover_problem.specs.declared.limits.TheConstants.{MOST_ITEMS, MOST_OPTIONS, MOST_ENTRIES}
@@ -41,6 +41,12 @@ pub record ArePlaces (p : PuzzleValue) (places : List ℕ) : Type 0 where
 -- how many items come before the nodes
 abbrev pub before_nodes : PuzzleValue → ℕ
 before_nodes p = length (needed_things p) + length p.maybe_pieces + length p.maybe_cells
+
+-- the table has, for each cell of the region, one more than how many of the region's cells come before it, and 0 for each other cell
+pub record ArePlacesOf (region : List Coordinates) (places : List ℕ) : Type 0 where
+  pub long : length places ≡ grid_cells
+  pub same : (v : Coordinates) → IsIn v region → item_number_at places v ≡ place_of region v + 1
+  pub others : (v : Coordinates) → IsInGrid v → ¬ IsIn v region → item_number_at places v ≡ 0
 
 -- what tells the number of each item: the table of the cells' items, that of their places, the pairs of equal pieces, the levels of
 -- their trees with how many leaves each has, and how many items come before the nodes

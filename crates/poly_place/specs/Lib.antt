@@ -15,3 +15,4 @@ pub mod Faults
 pub mod Classes
 pub mod ClassCount
 pub mod Forms
+pub mod FormTables

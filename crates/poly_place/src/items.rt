@@ -1,15 +1,16 @@
 //! The items of a puzzle's problem: the required pieces and cells, and then those that may be left out.
-ghost use Rattle.std.specs.Prelude.{◌≡◌, ◌≤◌, ◌<◌, ◌+◌, ◌∷◌, [], false, IfOk, length, map};
+ghost use Rattle.std.specs.Prelude.{◌≡◌, ◌≤◌, ◌<◌, ◌+◌, ◌∷◌, [], false, IfOk, length, map, replicate};
 ghost use Rattle.std.specs.String.{string_bytes};
 ghost use Rattle.poly_cells.specs.CellWords.{cell_word};
 ghost use Rattle.poly_cells.specs.CellWords as grammar;
 ghost use Rattle.poly_cells.specs.Sets.{IsIn};
+ghost use Rattle.poly_cells.specs.Shapes.{IsShape};
 ghost use Rattle.poly_texts.specs.Puzzle.{IsPuzzle, names_of, is_needed};
 ghost use Rattle.cover_problem.specs.Limits.{most_items};
 ghost use Rattle.shared_words.specs.Answers.{ReturnsItems};
 ghost use Rattle.poly_place.specs.Answers.{AddsTexts};
 ghost use Rattle.poly_place.specs.Packings.{a_piece, thing_item, is_any, needed_things, index_among, node_word};
-ghost use Rattle.poly_place.specs.Compiled.{AreNumbers, ArePlaces, filled_cells, needed_names, numbered};
+ghost use Rattle.poly_place.specs.Compiled.{AreNumbers, ArePlaces, ArePlacesOf, filled_cells, needed_names, numbered};
 ghost use Rattle.poly_place.specs.Tables.{grid_cells};
 
 use crate::table::{GRID_CELLS, bit_index, has_bit, table_of};
@@ -77,7 +78,8 @@ pub fn cell_numbers(
 
 /// A table without numbers.
 fn no_numbers(alloc: Global, count: usize) -> Result<Vec<u32>, AllocError>
-    ensures { IfOk result (λ numbers. length numbers.items ≡ count) }
+    ensures value { ReturnsItems result (replicate count 0) }
+    ensures long { IfOk result (λ numbers. length numbers.items ≡ count) }
 {
     vec![in alloc; 0u32; count]
 }
@@ -87,8 +89,16 @@ pub fn cell_places(alloc: Global, puzzle: &Puzzle) -> Result<Vec<u32>, AllocErro
     requires { IsPuzzle puzzle.now }
     ensures { IfOk result (λ places. ArePlaces puzzle.now places.items) }
 {
+    region_places(alloc, puzzle.region().cells())
+}
+
+/// For each cell of a region one more than how many of its cells come before it, at the place of the cell's bit, and 0 elsewhere.
+pub fn region_places(alloc: Global, region: &[Cell]) -> Result<Vec<u32>, AllocError>
+    requires { IsShape region.now }
+    ensures { IfOk result (λ places. ArePlacesOf region.now places.items) }
+{
     let mut places = no_numbers(alloc, GRID_CELLS)?;
-    number_cells(&mut places, puzzle.region().cells(), 0);
+    number_cells(&mut places, region, 0);
     Ok(places)
 }
 

@@ -10,8 +10,11 @@ use Rattle.poly_place.specs.Forms.{key_of}
 use Rattle.poly_place.proofs.WalkLemmas.{item_in}
 use Rattle.poly_place.proofs.alike.classes.Goals as goal
 
-pub all_keys-requires : goal.all_keys-requires
-all_keys-requires c g i k j =
+pub all_keys-requires-clause-shape : goal.all_keys-requires-clause-shape
+all_keys-requires-clause-shape c = subst IsShape (sym c.cells.ensures.value) c.cells.ensures.shape
+
+pub all_keys-requires-clause-carriers : goal.all_keys-requires-clause-carriers
+all_keys-requires-clause-carriers c g i k j =
     subst (λ (vs : List Coordinates). k < length vs) (sym c.cells.ensures.value)
     (carriers_below _ _ _ _ c.cells.ensures.shape c.in_ok-carriers.ensures g (subst (λ vs. IsIn g (map vec_items vs)) c.as_slice.ensures.value i) k j)
 

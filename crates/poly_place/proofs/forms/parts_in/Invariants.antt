@@ -1,7 +1,7 @@
-use Rattle.std.proofs.Common.{◌≡◌, map, take}
-use Rattle.poly_place.specs.Classes.{part_at}
+use Rattle.std.proofs.Common.{◌≡◌, ◌-◌, drop}
+use Rattle.poly_place.specs.Forms.{parts_in}
 use Rattle.poly_place.proofs.forms.parts_in.Given as goal
 
--- the parts so far
-abbrev pub invariant-loop-cell : goal.invariant-loop-cell
-invariant-loop-cell l = l.parts.items ≡ map (part_at l.placements) (take l.cell-index l.region)
+-- the parts of the last placements
+abbrev pub invariant-loop-k : goal.invariant-loop-k
+invariant-loop-k l = l.parts.items ≡ parts_in l.region (drop (l.count - l.k) l.placements)

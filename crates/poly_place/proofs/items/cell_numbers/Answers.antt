@@ -40,5 +40,5 @@ returns c =
     let d = ap length c.maybe_pieces.ensures in
     written_numbers c.args.puzzle.now c.requires.puzzle c.deref_mut.result.now c.number_cells.new.numbers c.deref_mut-2.result.now c.number_cells-2.new.numbers _ _ _
     c.args.cells.now c.maybe_cells.result.now (length c.args.pieces.now) (length c.args.pieces.now + length c.args.cells.now + length c.maybe_pieces.result.now) c.in_ok-numbers.numbers.len
-    (ap length c.deref_mut.ensures.value ∙ c.in_ok-numbers.ensures) c.deref_mut.ensures.len c.requires.cells c.maybe_cells.ensures a (omega (arith, a, b, d, count))
+    (ap length c.deref_mut.ensures.value ∙ c.in_ok-numbers.ensures.long) c.deref_mut.ensures.len c.requires.cells c.maybe_cells.ensures a (omega (arith, a, b, d, count))
     c.number_cells.ensures c.deref_mut-2.ensures.value c.number_cells-2.ensures refl

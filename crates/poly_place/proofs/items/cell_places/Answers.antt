@@ -1,14 +1,15 @@
-use Rattle.std.proofs.Common.{arith, refl, ◌∙◌, ap, length}
-use Rattle.poly_place.proofs.NumberLemmas.{written_places}
+use Rattle.std.proofs.Common.{subst, sym, ◌∙◌, List}
+use Rattle.std.proofs.lemmas.Result.{IfOk-weaker}
+use Rattle.poly_cells.specs.Coordinates.{Coordinates}
+use Rattle.poly_cells.specs.Shapes.{IsShape}
+use Rattle.poly_place.specs.Compiled.{ArePlacesOf}
+use Rattle.poly_place.proofs.NumberLemmas.{places_by_region}
 use Rattle.poly_place.proofs.items.cell_places.Goals as goal
 
-pub number_cells-requires-clause-room : goal.number_cells-requires-clause-room
-number_cells-requires-clause-room c =
-    let few = c.requires.few in
-    let a = ap length (c.cells.ensures.value ∙ c.region.ensures.value) in
-    omega arith
+pub region_places-requires : goal.region_places-requires
+region_places-requires c = subst IsShape (sym c.cells.ensures.value) c.cells.ensures.shape
 
 pub returns : goal.returns
 returns c =
-    written_places c.args.puzzle.now c.requires c.deref_mut.result.now c.number_cells.new.numbers _ _ c.cells.result.now c.in_ok-places.places.len
-    (ap length c.deref_mut.ensures.value ∙ c.in_ok-places.ensures) c.deref_mut.ensures.len (c.cells.ensures.value ∙ c.region.ensures.value) c.number_cells.ensures refl
+    IfOk-weaker c.region_places.result _ _ (λ places are.
+    places_by_region c.args.puzzle.now places.items (subst (λ (vs : List Coordinates). ArePlacesOf vs places.items) (c.cells.ensures.value ∙ c.region.ensures.value) are)) c.region_places.ensures

@@ -33,7 +33,7 @@ use Rattle.poly_distinct.proofs.ImagePackingLemmas.{in_from_among, among_from_in
 use Rattle.poly_distinct.proofs.MovedCoverLemmas.{inside_of, moved_path}
 use Rattle.poly_distinct.proofs.AnchorLemmas.{image_twice, anchor_in, anchor_once, goes_to_anchor, left_there, brings_least}
 use Rattle.poly_distinct.proofs.NewLemmas.{no_longer}
-use Rattle.poly_distinct.proofs.PairListLemmas.{pairs_of, with, in_from_pairs, in_pairs, distinct_pairs, length_pairs}
+use Rattle.poly_distinct.proofs.PairListLemmas.{pairs_of, in_from_pairs, in_pairs, distinct_pairs, length_pairs}
 use Rattle.poly_distinct.proofs.RestrictLemmas.{AreSame, same_on, same_back, same_map, number_of}
 use Rattle.poly_distinct.proofs.SmallerLemmas.{whole_is_path, path_is_whole, same_packing, left_choices, different_whole}
 
@@ -149,7 +149,7 @@ module _ (p : PuzzleValue) (z : IsPuzzle p) where
 
 -- ---- lists of different paths
 
-different_once : (qs : List (List ℕ)) → AreDifferent qs → (q r : List ℕ) → IsIn q qs → IsIn r qs → AreSame q r → q ≡ r
+pub different_once : (qs : List (List ℕ)) → AreDifferent qs → (q r : List ℕ) → IsIn q qs → IsIn r qs → AreSame q r → q ≡ r
 different_once [] d q r i j a = absurd i
 different_once (x ∷ xs) d q r i j a =
     elim i [
@@ -163,7 +163,7 @@ different_once (x ∷ xs) d q r i j a =
       ]
     ]
 
-different_distinct : (qs : List (List ℕ)) → AreDifferent qs → IsDistinct qs
+pub different_distinct : (qs : List (List ℕ)) → AreDifferent qs → IsDistinct qs
 different_distinct [] d = tt
 different_distinct (x ∷ xs) d = ((λ i. d.0 x i (λ o. refl)), different_distinct xs d.1)
 

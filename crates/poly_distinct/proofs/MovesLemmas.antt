@@ -53,7 +53,7 @@ module _ (vs : List Coordinates) (s : IsShape vs) where
       ]
 
   -- and so are lists of them
-  same_orders : (xs ys : List Coordinates) → AreInside vs xs → AreInside vs ys → forms_cmp (map place xs) (map place ys) ≡ cells_cmp xs ys
+  pub same_orders : (xs ys : List Coordinates) → AreInside vs xs → AreInside vs ys → forms_cmp (map place xs) (map place ys) ≡ cells_cmp xs ys
   same_orders [] [] a b = refl
   same_orders [] (y ∷ ys) a b = refl
   same_orders (x ∷ xs) [] a b = refl
@@ -94,11 +94,11 @@ module _ (vs : List Coordinates) (s : IsShape vs) where
   carrier_long n = ap (λ (g : List ℕ). length g) (carrier_is n) ∙ length-map vs (λ v. place (image_in vs n v))
 
   -- the same place is that of the same cell
-  place_tells : (v w : Coordinates) → IsIn v vs → IsIn w vs → place v ≡ place w → v ≡ w
+  pub place_tells : (v w : Coordinates) → IsIn v vs → IsIn w vs → place v ≡ place w → v ≡ w
   place_tells v w i j e = coordinates_exact v w (sym (same_order v w i j) ∙ ap (nat_cmp (place v)) (sym e) ∙ tied_itself nat_cmp_total (place v))
 
   -- where it brings places, in order
-  carried_is : (n : ℕ) (cells : List Coordinates) → AreInside vs cells → AreInside vs (map (image_in vs n) cells)
+  pub carried_is : (n : ℕ) (cells : List Coordinates) → AreInside vs cells → AreInside vs (map (image_in vs n) cells)
       → in_order nat_cmp (carried (carrier vs n) (map place cells)) ≡ map place (image_of vs n cells)
   carried_is n cells a b =
       ap (in_order nat_cmp)
@@ -122,13 +122,13 @@ module _ (p : PuzzleValue) (z : IsPuzzle p) (group : Group) (gs : List (List ℕ
   abbrev at : Coordinates → ℕ
   at = place_of p.region
 
-  images_inside : (n : ℕ) → IsKept group p.region p.maybe_cells n → (cells : List Coordinates) → AreInside p.region cells → AreInside p.region (map (image_in p.region n) cells)
+  pub images_inside : (n : ℕ) → IsKept group p.region p.maybe_cells n → (cells : List Coordinates) → AreInside p.region cells → AreInside p.region (map (image_in p.region n) cells)
   images_inside n k cells a w i =
       let v = in_from_map (image_in p.region n) w cells i in
       subst (λ (u : Coordinates). IsIn u p.region) (sym v.2) (kept_stays group p.region p.maybe_cells n shape k v.0 (a v.0 v.1))
 
   -- carriers leave the places of the cells that the symmetries leave
-  leaves_is : (t : Thing) → LiesInside p t → (n : ℕ) → IsKept group p.region p.maybe_cells n → leaves_place (fixed_place p.region t) (carrier p.region n) ≡ leaves_thing p t n
+  pub leaves_is : (t : Thing) → LiesInside p t → (n : ℕ) → IsKept group p.region p.maybe_cells n → leaves_place (fixed_place p.region t) (carrier p.region n) ≡ leaves_thing p t n
   leaves_is (a_piece name) i n k = refl
   leaves_is (a_cell v) i n k =
       same_tests (slice_index (carrier p.region n) (at v) == at v) (is_same (image_in p.region n v) v)
@@ -138,13 +138,13 @@ module _ (p : PuzzleValue) (z : IsPuzzle p) (group : Group) (gs : List (List ℕ
       (λ h. eq-eqb (slice_index (carrier p.region n) (at v)) (at v) (at_carrier p.region shape n v i ∙ ap at ((is_same_Decides (image_in p.region n v) v).0 h)))
   leaves_is (a_node name h) i n k = refl
 
-  kept_there : (t : Thing) (n : ℕ) → IsKept group p.region p.maybe_cells n → leaves_thing p t n ≡ true → IsIn n (kept_at p group t)
+  pub kept_there : (t : Thing) (n : ℕ) → IsKept group p.region p.maybe_cells n → leaves_thing p t n ≡ true → IsIn n (kept_at p group t)
   unfolding kept_at
   kept_there t n k h =
       in_filter (λ n. keeps_region p group n && leaves_thing p t n) n (range_with_len 0 48) (let lt = k.limit in in_to_range n 0 48 (omega arith) (omega (arith, lt)))
       (and_from (keeps_region p group n) (leaves_thing p t n) (from_kept p z group n k) h)
 
-  there_kept : (t : Thing) (n : ℕ) → IsIn n (kept_at p group t) → IsKept group p.region p.maybe_cells n × (leaves_thing p t n ≡ true)
+  pub there_kept : (t : Thing) (n : ℕ) → IsIn n (kept_at p group t) → IsKept group p.region p.maybe_cells n × (leaves_thing p t n ≡ true)
   unfolding kept_at
   there_kept t n i =
       let f = in_from_filter (λ n. keeps_region p group n && leaves_thing p t n) n (range_with_len 0 48) i in

@@ -71,7 +71,7 @@ module _ (p : PuzzleValue) (z : IsPuzzle p) (t : Thing) (ns : List ℕ) where
             (omega (arith, x), omega (arith, y))
       ]
 
-  left_are_options : (o : ℕ) → has left o ≡ true → IsOption (packing_problem p) o
+  pub left_are_options : (o : ℕ) → has left o ≡ true → IsOption (packing_problem p) o
   left_are_options o h =
       let r = left_cases o h in
       (r.0, subst (λ (n : ℕ). o ≤ n) (sym (options_long p)) r.1)

@@ -1,3 +1,8 @@
 pub mod Distinct
-pub mod Moves
 pub mod Fewer
+pub mod Free
+pub mod Moves
+pub mod Exchange
+pub mod Rule
+pub mod Counts
+pub mod UpTo

@@ -3,7 +3,7 @@
 --
 -- Example: of the row 0 0 0, 1 0 0, 2 0 0 half a turn brings the places 0 1 2 to 2 1 0, and leaves the cell 1 0 0 where it is
 -- (proofs/DistinctExamples.antt).
-use Rattle.std.specs.Prelude.{◌≡◌, ℕ, ◌<◌, ◌==◌, Bool, true, not, ◌&&◌, List, filter, length, slice_index, Option, None, Some}
+use Rattle.std.specs.Prelude.{◌≡◌, ℕ, ◌<◌, ◌==◌, Bool, true, not, ◌&&◌, List, map, filter, length, slice_index, Option, None, Some}
 use Rattle.std.specs.List.{list_all, range_with_len}
 use Rattle.std.specs.Ordering.{is_lt, nat_cmp}
 use Rattle.poly_cells.specs.Coordinates.{Coordinates}
@@ -74,3 +74,7 @@ is_least_by fixed places carriers = list_all (λ g. not (leaves_place fixed g &&
 pub record HavePlaces (fixed : Option ℕ) (places : List ℕ) (carriers : List (List ℕ)) : Type 0 where
   pub each : (g : List ℕ) → IsIn g carriers → AreBelow (length g) places
   pub one : (g : List ℕ) → IsIn g carriers → (k : ℕ) → fixed ≡ Some k → k < length g
+
+-- where each carrier that leaves the place where it is brings these, in order
+abbrev pub images_at : Option ℕ → List ℕ → List (List ℕ) → List (List ℕ)
+images_at fixed places carriers = map (λ g. in_order nat_cmp (carried g places)) (filter (leaves_place fixed) carriers)

@@ -1,14 +1,16 @@
 //! The symmetries of a puzzle's region, as moves of the places of its cells.
-ghost use Rattle.std.specs.Prelude.{◌≡◌, ◌<◌, ℕ, Option, Some, List, length, map};
+ghost use Rattle.std.specs.Prelude.{◌≡◌, ◌<◌, ℕ, Option, Some, List, length, map, ◌∷◌, []};
 ghost use Rattle.std.specs.Ordering.{nat_cmp};
 ghost use Rattle.poly_cells.specs.Coordinates.{Coordinates};
 ghost use Rattle.poly_cells.specs.Sets.{IsIn, in_order};
 ghost use Rattle.shared_words.specs.Answers.{Returns, ReturnsItems};
 ghost use Rattle.poly_texts.specs.Lists.{lists_of};
 ghost use Rattle.poly_place.specs.Packings.{place_of};
-ghost use Rattle.poly_place.specs.Forms.{carried, AreBelow};
-ghost use Rattle.poly_distinct.specs.Distinct.{is_least};
-ghost use Rattle.poly_distinct.specs.Moves.{thing_of, kept_at, fixed_place, is_least_by, leaves_place, lowers, LiesInside, HavePlaces};
+ghost use Rattle.poly_place.specs.Forms.{carried, forms_cmp, AreBelow};
+ghost use Rattle.poly_place.specs.Answers.{AddsLists, ReturnsLists};
+ghost use Rattle.poly_distinct.specs.Distinct.{images_by, is_least};
+ghost use Rattle.poly_distinct.specs.Moves.{thing_of, kept_at, fixed_place, images_at, is_least_by, leaves_place, lowers, LiesInside};
+ghost use Rattle.poly_distinct.specs.Moves.{HavePlaces};
 
 use crate::anchor::Anchor;
 use poly_cells::Cell;
@@ -73,6 +75,27 @@ impl<'p> Moves<'p> {
         is_least(alloc, carriers, fixed, list)
     }
 
+    /// To how many sets of cells those that leave the anchor where it is bring the cells.
+    pub fn image_count(
+        &self,
+        alloc: Global,
+        anchor: &Anchor,
+        cells: &[Cell],
+    ) -> Result<usize, AllocError>
+        requires anchor { LiesInside self.now.puzzle (thing_of anchor.now) }
+        requires inside { (v : Coordinates) → IsIn v cells.now → IsIn v self.now.puzzle.region }
+        ensures { Returns result (length (images_by self.now.puzzle.region
+            (kept_at self.now.puzzle self.now.group (thing_of anchor.now)) cells.now)) }
+    {
+        let places = self.places_of(alloc, cells)?;
+        let fixed = self.fixed(anchor);
+        let carriers = self.carriers.as_slice();
+        let list = places.as_slice();
+        let mut images = all_carried(alloc, carriers, fixed, list)?;
+        put_lists_in_order(&mut images);
+        Ok(images.len())
+    }
+
     /// The place of each of the cells.
     fn places_of(&self, alloc: Global, cells: &[Cell]) -> Result<Vec<usize>, AllocError>
         requires { (v : Coordinates) → IsIn v cells.now → IsIn v self.now.puzzle.region }
@@ -85,8 +108,15 @@ impl<'p> Moves<'p> {
         Ok(places)
     }
 
+    /// The puzzle.
+    pub fn puzzle(&self) -> &'p Puzzle
+        ensures { result.now ≡ self.now.puzzle }
+    {
+        self.puzzle
+    }
+
     /// How many of the region's cells come before this one.
-    fn place_of(&self, cell: Cell) -> usize
+    pub fn place_of(&self, cell: Cell) -> usize
         requires { IsIn cell self.now.puzzle.region }
         ensures { result ≡ place_of self.now.puzzle.region cell }
     {
@@ -162,4 +192,49 @@ fn put_in_order(places: &mut Vec<usize>)
 {
     places.sort_unstable();
     places.dedup();
+}
+
+/// Where each carrier that leaves this place where it is brings the places, in order.
+fn all_carried(
+    alloc: Global,
+    carriers: &[Vec<usize>],
+    fixed: Option<usize>,
+    places: &[usize],
+) -> Result<Vec<Vec<usize>>, AllocError>
+    requires { HavePlaces fixed places.now (lists_of carriers.now) }
+    ensures { ReturnsLists result (images_at fixed places.now (lists_of carriers.now)) }
+{
+    let mut images = Vec::new(alloc);
+    for carrier in carriers {
+        add_carried(alloc, &mut images, carrier.as_slice(), fixed, places)?;
+    }
+    Ok(images)
+}
+
+/// Adds where the carrier brings the places, in order, if it leaves this place where it is.
+fn add_carried(
+    alloc: Global,
+    images: &mut Vec<Vec<usize>>,
+    carrier: &[usize],
+    fixed: Option<usize>,
+    places: &[usize],
+) -> Result<(), AllocError>
+    requires { HavePlaces fixed places.now (carrier.now ∷ []) }
+    ensures { AddsLists result images.old images.new (images_at fixed places.now (carrier.now ∷ [])) }
+{
+    if !leaves(carrier, fixed) {
+        return Ok(());
+    }
+    let mut there = carried(alloc, carrier, places)?;
+    put_in_order(&mut there);
+    images.push(there)?;
+    Ok(())
+}
+
+/// Puts lists in order, each once.
+fn put_lists_in_order(lists: &mut Vec<Vec<usize>>)
+    ensures { lists_of lists.new.items ≡ in_order forms_cmp (lists_of lists.old.items) }
+{
+    lists.sort_unstable();
+    lists.dedup();
 }

@@ -1,8 +1,11 @@
-use Rattle.std.proofs.Common.{◌≡◌, ℕ, ◌<◌, List, [], map, length, get_or, vec_items, sym, ap, ap₂, subst, ◌∙◌, arith, take_all, ◌++◌, ◌∷◌}
+use Rattle.std.proofs.Common.{◌≡◌, ℕ, ◌<◌, Vec, List, [], map, length, get_or, vec_items, sym, ap, ap₂, subst, ◌∙◌, arith, take_all, ◌++◌, ◌∷◌}
 use Rattle.std.proofs.lemmas.List.{get_or_default}
+use Rattle.std.specs.declared.alloc.Global.{Global}
 use Rattle.poly_cells.specs.Coordinates.{Coordinates}
 use Rattle.poly_cells.specs.Sets.{IsIn}
+use Rattle.poly_cells.specs.Shapes.{IsShape}
 use Rattle.poly_place.specs.Chosen.{packing_value}
+use Rattle.poly_place.specs.Compiled.{ArePlacesOf}
 use Rattle.poly_place.specs.Forms.{key_of, forms_cmp, AreCarriers}
 use Rattle.poly_distinct.specs.Distinct.{new_from}
 use Rattle.std.specs.Ordering.{is_eq}
@@ -12,21 +15,30 @@ use Rattle.poly_distinct.proofs.NewsLemmas.{known_more, new_more, new_same}
 use Rattle.poly_distinct.proofs.news.distinct_paths.Goals as goal
 use Rattle.poly_distinct.proofs.news.distinct_paths.Goals.{then-branch+in_ok-push, else-branch}
 
+pub region_places-requires : goal.region_places-requires
+region_places-requires c = subst IsShape (sym c.cells-cells.ensures.value) c.cells-cells.ensures.shape
+
+pub key-requires-clause-shape : goal.key-requires-clause-shape
+key-requires-clause-shape c = subst IsShape (sym c.cells-cells.ensures.value) c.cells-cells.ensures.shape
+
+pub key-requires-clause-places : goal.key-requires-clause-places
+key-requires-clause-places c = subst (λ (ns : List ℕ). ArePlacesOf c.cells-cells.result.now ns) (sym c.as_slice-places.ensures.value) c.in_ok-table.ensures
+
 pub key-requires-clause-carriers : goal.key-requires-clause-carriers
 key-requires-clause-carriers c g i k j =
     subst (λ (vs : List Coordinates). k < length vs) (sym c.cells-cells.ensures.value)
-    (carriers_below _ _ _ _ c.cells-cells.ensures.shape c.in_ok-carriers.ensures g (subst (λ vs. IsIn g (map vec_items vs)) c.as_slice.ensures.value i) k j)
+    (carriers_below _ _ _ _ c.cells-cells.ensures.shape c.in_ok-carriers.ensures g (subst (λ vs. IsIn g (map vec_items vs)) c.as_slice-list.ensures.value i) k j)
 
 pub loop-k-preserved : goal.loop-k-preserved
 loop-k-preserved c =
-    let key = λ (q : List ℕ). key_of c.cells-cells.result.now (map vec_items c.in_ok-carriers.carriers.items) (packing_value c.args.compiled.now q) in
+    let key = λ (q : List ℕ). key_of c.cells-cells.result.now (map vec_items c.as_slice-list.result.now) (packing_value c.args.compiled.now q) in
     let paths = c.args.paths.now in
     let k = c.loop-k.k in
     let more : k < length paths = let lt = c.loop-k-test.true in let len = c.len-k-end.ensures in omega (arith, lt, len) in
     let x = c.list.result.now in
     let at : x ≡ get_or paths k x = c.list.ensures ∙ get_or_default paths k [] x more in
     let v = c.in_ok-key.key.items in
-    let made : v ≡ key x = c.in_ok-key.ensures ∙ ap (λ gs. key_of c.cells-cells.result.now (map vec_items gs) (packing_value c.args.compiled.now x)) c.as_slice.ensures.value in
+    let made : v ≡ key x = c.in_ok-key.ensures in
     record {
       news = elim c.if-branch.branch [
         | then-branch+in_ok-push w ↦
@@ -41,9 +53,11 @@ loop-k-preserved c =
 
 pub returns : goal.returns
 returns c =
-    let gs = map vec_items c.in_ok-carriers.carriers.items in
+    let gs = map vec_items c.as_slice-list.result.now in
     let p = c.args.compiled.now in
     let same = λ (cells : List Coordinates) (paths : List (List ℕ)). new_from (λ q r. is_eq (forms_cmp (key_of cells gs (packing_value p q)) (key_of cells gs (packing_value p r)))) [] paths in
     let whole = take_all c.loop-k.k c.args.paths.now (let lt = c.loop-k-test.false in let len = c.len-k-end.ensures in omega (arith, lt, len)) in
-    let carriers : AreCarriers c.args.group p.region p.maybe_cells gs = moved_keys c.args.group _ _ _ _ gs c.region-region.ensures c.maybe_cells.ensures c.in_ok-carriers.ensures in
+    let carriers : AreCarriers c.args.group p.region p.maybe_cells gs =
+    subst (λ (vs : List (Vec ℕ Global)). AreCarriers c.args.group p.region p.maybe_cells (map vec_items vs)) (sym c.as_slice-list.ensures.value)
+    (moved_keys c.args.group _ _ _ _ (map vec_items c.in_ok-carriers.carriers.items) c.region-region.ensures c.maybe_cells.ensures c.in_ok-carriers.ensures) in
     c.loop-k.invariant.news ∙ ap₂ same (c.cells-cells.ensures.value ∙ c.region-region.ensures) whole ∙ by_keys p c.choices-sound.ensures.puzzle c.args.group gs carriers c.args.paths.now

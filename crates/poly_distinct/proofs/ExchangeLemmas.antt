@@ -1,0 +1,143 @@
+-- The exchange of names as the code computes it: tests over the pieces with their forms are tests over the puzzle.
+use Rattle.std.proofs.Common.{◌≡◌, ℕ, ◌+◌, ◌<◌, ◌≤◌, ◌==◌, Bool, true, false, not, ◌&&◌, ◌||◌, cond, List, [], ◌∷◌, map, filter, length, get_or, drop, refl, sym, ap, ap₂, ◌∙◌}
+use Rattle.std.specs.Prelude.{find, option_map, unwrap_or}
+use Rattle.std.specs.List.{list_all, list_any, range_with_len}
+use Rattle.std.specs.Ordering.{is_eq}
+use Rattle.std.proofs.Math.Bool.{beq}
+use Rattle.std.proofs.lemmas.List.{at_drop_more, drop_all}
+use Rattle.std.proofs.lemmas.List.Folds.{list_all-map}
+use Rattle.poly_cells.specs.Coordinates.{Coordinates}
+use Rattle.poly_cells.specs.Shapes.{turned}
+use Rattle.poly_cells.specs.Symmetries.{is_rotation}
+use Rattle.poly_texts.specs.Puzzle.{PuzzleValue, names_of, has_name}
+use Rattle.poly_place.specs.Placements.{cells_cmp}
+use Rattle.poly_distinct.specs.Distinct.{is_mirrored, mirrors_pieces, keeps_flags, tells_names, are_mirrors}
+use Rattle.poly_distinct.specs.Exchange.{KindValue, RoleValue, mirror_name, has_mirrors, piece_kind, kinds_of, pairs_of, role_of, second_of, has_form, forms_by, takes_symmetry}
+
+-- ---- the first of a list that passes a test
+
+-- what the first has that passes the test, or another value
+abbrev pub first_of : {X Y : Type 0} → (X → Y) → (X → Bool) → Y → List X → Y
+first_of f test d xs = unwrap_or (option_map f (find test xs)) d
+
+-- ---- tests over lists
+
+pub same_all : {X : Type 0} (f g : X → Bool) → ((x : X) → f x ≡ g x) → (xs : List X) → list_all f xs ≡ list_all g xs
+same_all f g h [] = refl
+same_all f g h (x ∷ xs) = ap₂ (λ a b. a && b) (h x) (same_all f g h xs)
+
+pub same_any : {X : Type 0} (f g : X → Bool) → ((x : X) → f x ≡ g x) → (xs : List X) → list_any f xs ≡ list_any g xs
+same_any f g h [] = refl
+same_any f g h (x ∷ xs) = ap₂ (λ a b. a || b) (h x) (same_any f g h xs)
+
+pub any_map : {X Y : Type 0} (f : Y → Bool) (g : X → Y) (xs : List X) → list_any f (map g xs) ≡ list_any (λ x. f (g x)) xs
+any_map f g [] = refl
+any_map f g (x ∷ xs) = ap (λ b. f (g x) || b) (any_map f g xs)
+
+any_kept : {X Y : Type 0} (f : Y → Bool) (g : X → Y) (x : X) (b : Bool) (xs ys : List X) → list_any f (map g ys) ≡ list_any f (map g xs)
+    → list_any f (map g (cond b (x ∷ ys) ys)) ≡ ((b && f (g x)) || list_any f (map g xs))
+any_kept f g x true xs ys h = ap (λ b. f (g x) || b) h
+any_kept f g x false xs ys h = h
+
+-- a test of the images of those that are kept
+pub any_filtered : {X Y : Type 0} (f : Y → Bool) (g : X → Y) (keep : X → Bool) (xs : List X) → list_any f (map g (filter keep xs)) ≡ list_any (λ x. keep x && f (g x)) xs
+any_filtered f g keep [] = refl
+any_filtered f g keep (x ∷ xs) =
+    any_kept f g x (keep x) (filter keep xs) (filter keep xs) refl ∙ ap (λ b. (keep x && f (g x)) || b) (any_filtered f g keep xs)
+
+-- ---- mirror images
+
+reflects : (r b : Bool) → (beq r false || b) ≡ (not r || b)
+reflects true b = refl
+reflects false b = refl
+
+-- a piece is among the forms of the other one's mirror image where it is its mirror image
+pub image_is : (p : PuzzleValue) (name : ℕ) (cells piece : List Coordinates) → has_form (forms_by (takes_symmetry false (has_name p.mirrored name)) cells) piece ≡ is_mirrored p name cells piece
+image_is p name cells piece =
+    any_filtered (λ form. is_eq (cells_cmp form piece)) (λ n. turned n cells) (takes_symmetry false (has_name p.mirrored name)) (range_with_len 0 48)
+    ∙ same_any (λ n. takes_symmetry false (has_name p.mirrored name) n && is_eq (cells_cmp (turned n cells) piece))
+    (λ n. (not (is_rotation n) || has_name p.mirrored name) && is_eq (cells_cmp (turned n cells) piece))
+    (λ n. ap (λ b. b && is_eq (cells_cmp (turned n cells) piece)) (reflects (is_rotation n) (has_name p.mirrored name))) (range_with_len 0 48)
+
+-- whether some kind stands for the piece that takes the place of one
+abbrev pub has_mirror : List KindValue → (ℕ → ℕ) → KindValue → Bool
+has_mirror ks s k = list_any (λ l. (l.name == s k.name) && has_form l.images k.piece) ks
+
+mirror_is : (p : PuzzleValue) (s : ℕ → ℕ) (named : ℕ × List Coordinates) → has_mirror (kinds_of p) s (piece_kind p named) ≡ list_any (λ other. (other.0 == s (named.0)) && is_mirrored p (other.0) (other.1) (named.1)) p.pieces
+mirror_is p s named =
+    any_map (λ l. (l.name == s (named.0)) && has_form l.images (named.1)) (piece_kind p) p.pieces
+    ∙ same_any (λ (other : ℕ × List Coordinates). (other.0 == s (named.0)) && has_form (piece_kind p other).images (named.1))
+    (λ (other : ℕ × List Coordinates). (other.0 == s (named.0)) && is_mirrored p (other.0) (other.1) (named.1))
+    (λ (other : ℕ × List Coordinates). ap (λ b. (other.0 == s (named.0)) && b) (image_is p (other.0) (other.1) (named.1))) p.pieces
+
+pub mirrors_are : (p : PuzzleValue) (s : ℕ → ℕ) → list_all (has_mirror (kinds_of p) s) (kinds_of p) ≡ mirrors_pieces p s
+mirrors_are p s =
+    list_all-map (has_mirror (kinds_of p) s) (piece_kind p) p.pieces
+    ∙ same_all (λ (named : ℕ × List Coordinates). has_mirror (kinds_of p) s (piece_kind p named))
+    (λ (named : ℕ × List Coordinates). list_any (λ other. (other.0 == s (named.0)) && is_mirrored p (other.0) (other.1) (named.1)) p.pieces)
+    (mirror_is p s) p.pieces
+
+-- ---- names
+
+pub all_names : (p : PuzzleValue) (f : ℕ → Bool) → list_all (λ (k : KindValue). f k.name) (kinds_of p) ≡ list_all f (names_of p.pieces)
+all_names p f =
+    list_all-map (λ (k : KindValue). f k.name) (piece_kind p) p.pieces ∙ sym (list_all-map f (λ (n : ℕ × List Coordinates). n.0) p.pieces)
+
+pub any_name : (p : PuzzleValue) (f : ℕ → Bool) → list_any (λ (k : KindValue). f k.name) (kinds_of p) ≡ list_any f (names_of p.pieces)
+any_name p f =
+    any_map (λ (k : KindValue). f k.name) (piece_kind p) p.pieces ∙ sym (any_map f (λ (n : ℕ × List Coordinates). n.0) p.pieces)
+
+-- ---- all four tests
+
+pub tests_are : (p : PuzzleValue) (s : ℕ → ℕ) (ks : List KindValue) → ks ≡ kinds_of p
+    → (list_all (has_mirror ks s) ks
+    && (list_all (λ (k : KindValue). keeps_flags p s k.name) ks
+    && (list_all (λ (k : KindValue). list_all (λ (l : KindValue). tells_names p s k.name l.name) ks) ks
+    && list_all (λ (k : KindValue). list_any (λ (l : KindValue). s l.name == k.name) ks) ks))) ≡ are_mirrors p s
+unfolding are_mirrors
+tests_are p s ks e =
+    ap (λ (js : List KindValue). list_all (has_mirror js s) js
+    && (list_all (λ (k : KindValue). keeps_flags p s k.name) js
+    && (list_all (λ (k : KindValue). list_all (λ (l : KindValue). tells_names p s k.name l.name) js) js
+    && list_all (λ (k : KindValue). list_any (λ (l : KindValue). s l.name == k.name) js) js))) e
+    ∙ ap₂ (λ a b. a && b) (mirrors_are p s)
+    (ap₂ (λ a b. a && b) (all_names p (keeps_flags p s))
+    (ap₂ (λ a b. a && b)
+    (same_all (λ (k : KindValue). list_all (λ (l : KindValue). tells_names p s k.name l.name) (kinds_of p)) (λ (k : KindValue). list_all (tells_names p s k.name) (names_of p.pieces))
+    (λ (k : KindValue). all_names p (tells_names p s k.name)) (kinds_of p)
+    ∙ all_names p (λ a. list_all (tells_names p s a) (names_of p.pieces)))
+    (same_all (λ (k : KindValue). list_any (λ (l : KindValue). s l.name == k.name) (kinds_of p)) (λ (k : KindValue). list_any (λ a. s a == k.name) (names_of p.pieces))
+    (λ (k : KindValue). any_name p (λ a. s a == k.name)) (kinds_of p)
+    ∙ all_names p (λ b. list_any (λ a. s a == b) (names_of p.pieces)))))
+
+pub four : (a b c d e f g h : Bool) → a ≡ e → b ≡ f → c ≡ g → d ≡ h → (a && (b && (c && d))) ≡ (e && (f && (g && h)))
+four a b c d e f g h p q r s = ap₂ (λ x y. x && y) p (ap₂ (λ x y. x && y) q (ap₂ (λ x y. x && y) r s))
+
+-- ---- what is kept
+
+pub name_is : (p : PuzzleValue) (pairs : List (ℕ × ℕ)) (name : ℕ) → pairs ≡ pairs_of (kinds_of p) → second_of pairs name ≡ mirror_name p name
+unfolding mirror_name
+name_is p pairs name e = ap (λ (qs : List (ℕ × ℕ)). second_of qs name) e
+
+pub whole_is : (p : PuzzleValue) (pairs : List (ℕ × ℕ)) → pairs ≡ pairs_of (kinds_of p) → are_mirrors p (second_of pairs) ≡ has_mirrors p
+unfolding mirror_name has_mirrors
+whole_is p pairs e = ap (λ (qs : List (ℕ × ℕ)). are_mirrors p (second_of qs)) e
+
+abbrev pub kind_with : ℕ → List Coordinates → List (List Coordinates) → List (List Coordinates) → RoleValue → KindValue
+kind_with name piece forms images role = record { name = name; piece = piece; forms = forms; images = images; role = role }
+
+pub kind_is : (p : PuzzleValue) (name : ℕ) (piece copy : List Coordinates) (forms images : List (List Coordinates)) (role : RoleValue) (both : Bool) → copy ≡ piece → both ≡ has_name p.mirrored name
+    → forms ≡ forms_by (takes_symmetry true both) piece → images ≡ forms_by (takes_symmetry false both) piece → role ≡ role_of p name
+    → kind_with name copy forms images role ≡ piece_kind p (name, piece)
+kind_is p name piece copy forms images role both c b f i r =
+    ap (λ (vs : List Coordinates). kind_with name vs forms images role) c
+    ∙ ap (λ (fs : List (List Coordinates)). kind_with name piece fs images role) (f ∙ ap (λ (x : Bool). forms_by (takes_symmetry true x) piece) b)
+    ∙ ap (λ (fs : List (List Coordinates)). kind_with name piece (forms_by (takes_symmetry true (has_name p.mirrored name)) piece) fs role) (i ∙ ap (λ (x : Bool). forms_by (takes_symmetry false x) piece) b)
+    ∙ ap (kind_with name piece (forms_by (takes_symmetry true (has_name p.mirrored name)) piece) (forms_by (takes_symmetry false (has_name p.mirrored name)) piece)) r
+
+-- one more passes a test, or fails
+pub all_next : {X : Type 0} (test : X → Bool) (xs : List X) (i : ℕ) (x : X) (b : Bool) → i < length xs → x ≡ get_or xs i x → test x ≡ b → list_all test (drop i xs) ≡ (b && list_all test (drop (i + 1) xs))
+all_next test xs i x b lt is t = at_drop_more (list_all test) xs i x lt ∙ ap (λ c. c && list_all test (drop (i + 1) xs)) (ap test (sym is) ∙ t)
+
+pub all_end : {X : Type 0} (test : X → Bool) (xs : List X) (i : ℕ) → length xs ≤ i → true ≡ list_all test (drop i xs)
+all_end test xs i le = ap (list_all test) (sym (drop_all i xs le))

@@ -1,0 +1,9 @@
+pub mod LimbLemmas
+pub mod LevelLemmas
+pub mod KeyLemmas
+pub mod BelowLemmas
+pub mod KeptLemmas
+pub mod SearchLemmas
+pub mod LoopLemmas
+pub mod WholeLemmas
+pub mod DigitLemmas

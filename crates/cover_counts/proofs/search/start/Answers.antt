@@ -1,0 +1,11 @@
+use Rattle.cover_counts.proofs.SearchLemmas.{chosen_bounds, chosen_first}
+use Rattle.cover_counts.proofs.search.start.Goals as goal
+
+pub first_option-next-requires-clause-some : goal.first_option-next-requires-clause-some
+first_option-next-requires-clause-some g c = (chosen_bounds _ _ _ _ c.requires.at c.requires.open c.choose-item.ensures).1
+
+pub first_option-next-requires-clause-within : goal.first_option-next-requires-clause-within
+first_option-next-requires-clause-within g c = (chosen_bounds _ _ _ _ c.requires.at c.requires.open c.choose-item.ensures).2
+
+pub take_up-requires-clause-next : goal.take_up-requires-clause-next
+take_up-requires-clause-next g c = chosen_first _ _ _ _ _ c.requires.at c.requires.open (chosen_bounds _ _ _ _ c.requires.at c.requires.open c.choose-item.ensures).0 c.first_option-next.ensures

@@ -1,0 +1,7 @@
+pub mod Limbs
+pub mod Levels
+pub mod Below
+pub mod Keys
+pub mod Kept
+pub mod Search
+pub mod Digits

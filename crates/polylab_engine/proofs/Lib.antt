@@ -6,9 +6,11 @@ pub mod ResumeLemmas
 pub mod ToldLemmas
 pub mod JoinedLemmas
 pub mod ClassifiedLemmas
+pub mod UpToLemmas
 mod ListedLemmas
 mod EndingLemmas
 mod OutputExamples
 mod PackedExamples
+mod UpToExamples
 mod JobExamples
 mod TableExamples

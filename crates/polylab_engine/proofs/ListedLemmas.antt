@@ -32,15 +32,17 @@ use Rattle.polylab_engine.specs.declared.job.Job.TheVariants as jobs
 use Rattle.polylab_engine.specs.declared.job.CoverJob.TheVariants as cover_jobs
 use Rattle.polylab_engine.specs.declared.job.PuzzleJob.TheVariants as puzzle_jobs
 use Rattle.polylab_engine.specs.Account.{ReportValue, account_of}
-use Rattle.polylab_engine.specs.Output.{cover_output, whole_report}
+use Rattle.polylab_engine.specs.Output.{cover_output, cover_count_output, whole_report}
 use Rattle.polylab_engine.proofs.ToldLemmas.{resumed, snapshot_read}
 use Rattle.polylab_engine.specs.First.{IsFirstReport, first_cover_output, first_packings_output}
 use Rattle.polylab_engine.specs.Packed.{solve_output, count_output, options_output}
 use Rattle.polylab_engine.specs.Classified.{packings_of, classes_of, classes_output}
+use Rattle.polylab_engine.specs.UpTo.{solve_up_to_output, count_up_to_output, options_up_to_output}
+use Rattle.polylab_engine.proofs.UpToLemmas.{shows_distinct, counts_distinct, gives_smaller}
 use Rattle.debug_script.specs.Input.{problem_text, command_lines}
 use Rattle.polylab_engine.specs.Debugged.{debug_output}
 use Rattle.polylab_engine.specs.Outcome.{job_outcome, covers_of, packed_of, place_refusal, puzzle_replies}
-use Rattle.polylab_engine.specs.Listed.{ListsCovers, ListsPackings, ListsFirstCovers, ListsFirstPackings, CountsPackings, CountsClasses, ArePackingPaths, IsListed}
+use Rattle.polylab_engine.specs.Listed.{ListsCovers, CountsCovers, ListsPackings, ListsFirstCovers, ListsFirstPackings, CountsPackings, CountsClasses, ListsDistinct, CountsDistinct, GivesSmaller, ArePackingPaths, IsListed}
 use Rattle.poly_place.specs.Listing.{AreExactCovers}
 
 -- ---- covers
@@ -54,6 +56,17 @@ lists p sound = record {
   levels = (whole_report true p).levels;
   lines = refl;
   rise = visits_rise p;
+  covers = visits_are_covers p sound;
+}
+
+-- with --count it tells how many they are
+counts_covers : (p : ProblemValue) → IsProblem p → CountsCovers p (cover_count_output p)
+unfolding cover_count_output account_of visits_between
+counts_covers p sound = record {
+  paths = visits_between p start done;
+  steps = (whole_report false p).steps;
+  levels = (whole_report false p).levels;
+  lines = refl;
   covers = visits_are_covers p sound;
 }
 
@@ -223,12 +236,16 @@ puzzle_read input p h = puzzle_is input p (texts.read_is_text input p h)
 pub outcome_lists : (job : Job) (input text : List ℕ) → job_outcome job input ≡ Ok text → IsListed job input text
 unfolding job_outcome
 outcome_lists (jobs.Cover cover_jobs.List) input text e = listed ListsCovers cover_output lists (problem_of input) text (problem_read input) e
+outcome_lists (jobs.Cover cover_jobs.Count) input text e = listed CountsCovers cover_count_output counts_covers (problem_of input) text (problem_read input) e
 outcome_lists (jobs.Puzzle puzzle_jobs.Solve) input text e = packed ListsPackings solve_output shows (puzzle_of input) text (puzzle_read input) e
 outcome_lists (jobs.Cover (cover_jobs.First n)) input text e = listed (ListsFirstCovers n) (first_cover_output n) (lists_first n) (problem_of input) text (problem_read input) e
 outcome_lists (jobs.Puzzle (puzzle_jobs.First n)) input text e = packed (ListsFirstPackings n) (first_packings_output n) (shows_first n) (puzzle_of input) text (puzzle_read input) e
 outcome_lists (jobs.Puzzle puzzle_jobs.Count) input text e = packed CountsPackings count_output counts (puzzle_of input) text (puzzle_read input) e
 outcome_lists (jobs.Puzzle puzzle_jobs.Classes) input text e = packed CountsClasses classes_output classified (puzzle_of input) text (puzzle_read input) e
 outcome_lists (jobs.Puzzle puzzle_jobs.Options) input text e = packed (λ p t. t ≡ written (packing_problem p)) options_output (λ p z s. options_are p) (puzzle_of input) text (puzzle_read input) e
+outcome_lists (jobs.Puzzle (puzzle_jobs.SolveUpTo group)) input text e = packed (ListsDistinct group) (solve_up_to_output group) (λ p z s. shows_distinct p z s group) (puzzle_of input) text (puzzle_read input) e
+outcome_lists (jobs.Puzzle (puzzle_jobs.CountUpTo group)) input text e = packed (CountsDistinct group) (count_up_to_output group) (λ p z s. counts_distinct p z s group (packing_paths p z s)) (puzzle_of input) text (puzzle_read input) e
+outcome_lists (jobs.Puzzle (puzzle_jobs.OptionsUpTo group)) input text e = packed (GivesSmaller group) (options_up_to_output group) (λ p z s. gives_smaller p z s group) (puzzle_of input) text (puzzle_read input) e
 outcome_lists (jobs.Puzzle puzzle_jobs.Debug) input text e =
     let lines = command_lines input in
     packed (λ p t. t ≡ debug_output lines (packing_problem p)) (puzzle_replies lines) (λ p z s. refl) (puzzle_of (problem_text input)) text (puzzle_read (problem_text input)) e

@@ -4,6 +4,7 @@ pub mod Stretch
 pub mod Packed
 pub mod Classified
 pub mod First
+pub mod UpTo
 pub mod Debugged
 pub mod Resumed
 pub mod Joined

@@ -1,10 +1,11 @@
 -- What the output lists: of `cover` the exact covers of the problem (`ListsCovers`), of `solve` the packings of the puzzle (`ListsPackings`), each
--- once, in path order; of both with `--first` the first of these (`ListsFirstCovers`, `ListsFirstPackings`); what `count` and its classes tell
--- (`CountsPackings`, `CountsClasses`), and what `resume` does (`TellsStretch`); and the same by the job (`IsListed`).
+-- once, in path order; of both with `--first` the first of these (`ListsFirstCovers`, `ListsFirstPackings`);
+-- what `cover --count` tells (`CountsCovers`), and `count` and its classes (`CountsPackings`, `CountsClasses`); what `solve`, `count` and `options` tell up to symmetry (`ListsDistinct`, `CountsDistinct`, `GivesSmaller`);
+-- what `resume` tells (`TellsStretch`); and the same by the job (`IsListed`).
 --
 -- Example: the path 4 5 1 is an exact cover of the small problem: its options a d f, b g and c e have each item once.
 -- proofs/JobExamples.antt shows it.
-use Rattle.std.specs.Prelude.{ℕ, ◌≡◌, ◌<◌, ◌≤◌, ◌⊎◌, Bool, Option, Some, List, [], ◌∷◌, ◌++◌, length, map, take, Ok}
+use Rattle.std.specs.Prelude.{ℕ, ◌≡◌, ◌<◌, ◌≤◌, ◌⊎◌, ◌*◌, Bool, true, Option, Some, List, [], ◌∷◌, ◌++◌, length, map, take, Ok}
 use Rattle.text_lines.specs.Writing.{line_text, text_of}
 use Rattle.shared_words.specs.Lists.{has}
 use Rattle.cover_problem.specs.Problem.{ProblemValue}
@@ -15,6 +16,7 @@ use Rattle.poly_texts.specs.Puzzle.{PuzzleValue}
 use Rattle.poly_texts.specs.Reading.{puzzle_of}
 use Rattle.poly_place.specs.Packings.{ChoiceValue, IsPacking, packing_problem}
 use Rattle.poly_place.specs.Chosen.{chosen_by, is_among}
+use Rattle.poly_place.specs.declared.alike.Group.{Group}
 use Rattle.poly_place.specs.declared.alike.Group.TheVariants.{Rotations, Symmetries}
 use Rattle.poly_place.specs.Classes.{AreAlike, IsClassCount}
 use Rattle.x_steps.specs.Order.{IsIn, PathsRise}
@@ -38,6 +40,11 @@ use Rattle.poly_place.specs.Listing.{packings_from}
 use Rattle.polylab_engine.specs.Packed.{number_line, count_lines}
 use Rattle.polylab_engine.specs.First.{stopped_line}
 use Rattle.polylab_engine.specs.Classified.{packings_of, class_lines}
+use Rattle.poly_distinct.specs.Distinct.{AreOneOfEach, MeetAll}
+use Rattle.poly_distinct.specs.Free.{acts_freely}
+use Rattle.poly_distinct.specs.Rule.{anchor_of}
+use Rattle.poly_distinct.specs.UpTo.{smaller, whole_paths, each_stands}
+use Rattle.polylab_engine.specs.UpTo.{class_line, up_to_lines, smaller_report, comment_lines}
 use Rattle.debug_script.specs.Input.{problem_text, command_lines}
 use Rattle.polylab_engine.specs.Debugged.{debug_output}
 
@@ -49,6 +56,14 @@ pub record ListsCovers (p : ProblemValue) (text : List ℕ) : Type 0 where
   pub levels : List ℕ
   pub lines : text ≡ text_of (map visit_words paths) ++ text_of (total_lines (length paths) steps levels)
   pub rise : PathsRise paths
+  pub covers : AreCovers p paths
+
+-- the text tells how many exact covers there are, the number of steps, and the levels
+pub record CountsCovers (p : ProblemValue) (text : List ℕ) : Type 0 where
+  pub paths : List (List ℕ)
+  pub steps : ℕ
+  pub levels : List ℕ
+  pub lines : text ≡ text_of (total_lines (length paths) steps levels)
   pub covers : AreCovers p paths
 
 -- the paths stand for the packings, each once: as tests on choices
@@ -105,6 +120,33 @@ pub record CountsClasses (p : PuzzleValue) (text : List ℕ) : Type 0 where
   pub by_rotations : IsClassCount (AreAlike Rotations) (packings_of p paths) rotations
   pub by_symmetries : IsClassCount (AreAlike Symmetries) (packings_of p paths) symmetries
 
+-- the text shows some packings of the puzzle, in path order, and tells how many: each packing of the puzzle is like one of them, and no
+-- two of them are alike, where rotations, or all symmetries, of the region carry some onto others
+pub record ListsDistinct (group : Group) (p : PuzzleValue) (text : List ℕ) : Type 0 where
+  pub paths : List (List ℕ)
+  pub lines : text ≡ packings_from p 1 paths ++ line_text (class_line group (length paths))
+  pub rise : PathsRise paths
+  pub one_of_each : AreOneOfEach p group paths
+
+-- the text tells how many packings there are, and how many of them are like none before them, in the words of `CountsClasses`; and the
+-- options, the steps and the levels of the search of the smaller problem
+pub record CountsDistinct (group : Group) (p : PuzzleValue) (text : List ℕ) : Type 0 where
+  pub paths : List (List ℕ)
+  pub number : ℕ
+  pub lines : text ≡ text_of (up_to_lines group (smaller p group) (length paths) number (smaller_report group p).steps (smaller_report group p).levels)
+  pub packings : ArePackingPaths p paths
+  pub by_group : IsClassCount (AreAlike group) (packings_of p paths) number
+
+-- the text is a comment and the smaller problem: its exact covers, by the numbers of the puzzle's options, stand for packings of which
+-- each packing is like one; each stands for as many as the comment says, if it says so; and no two of them are alike, if it says that
+pub record GivesSmaller (group : Group) (p : PuzzleValue) (text : List ℕ) : Type 0 where
+  pub lines : text ≡ text_of (comment_lines group (anchor_of p group) (each_stands p group) (acts_freely p group)) ++ written (smaller p group)
+  pub meets : (covers : List (List ℕ)) → AreCovers (smaller p group) covers → MeetAll p group (whole_paths p group covers)
+  pub counts : (n : ℕ) (covers paths : List (List ℕ)) → each_stands p group ≡ Some n → AreCovers (smaller p group) covers → PathsRise covers
+      → AreCovers (packing_problem p) paths → PathsRise paths → length paths ≡ length covers * n
+  pub alone : (covers : List (List ℕ)) → acts_freely p group ≡ true → AreCovers (smaller p group) covers → PathsRise covers
+      → AreOneOfEach p group (whole_paths p group covers)
+
 -- the text tells of the stretch of a run from a snapshot's state on: it stops at the end of the snapshot's branch, or as many steps on as
 -- were asked for, and never past that end. The visits that are listed, if they are, and counted are those of the run between the two
 -- states, no other and none twice; so are the steps and the levels. Where it stops there is a snapshot of the same problem and branch
@@ -126,6 +168,7 @@ pub record TellsStretch (most : Option ℕ) (lists : Bool) (v : SnapshotValue) (
 -- what is written is what the job is to tell of the input's problem, puzzle or snapshot, or what the input's commands are answered
 abbrev pub IsListed : Job → List ℕ → List ℕ → Type 0
 IsListed (jobs.Cover cover_jobs.List) input text = (p : ProblemValue) × (problem_of input ≡ Ok p) × ListsCovers p text
+IsListed (jobs.Cover cover_jobs.Count) input text = (p : ProblemValue) × (problem_of input ≡ Ok p) × CountsCovers p text
 IsListed (jobs.Cover (cover_jobs.First n)) input text = (p : ProblemValue) × (problem_of input ≡ Ok p) × ListsFirstCovers n p text
 IsListed (jobs.Cover cover_jobs.Debug) input text = (p : ProblemValue) × (problem_of (problem_text input) ≡ Ok p)
     × (text ≡ debug_output (command_lines input) p)
@@ -134,6 +177,9 @@ IsListed (jobs.Puzzle (puzzle_jobs.First n)) input text = (p : PuzzleValue) × (
 IsListed (jobs.Puzzle puzzle_jobs.Count) input text = (p : PuzzleValue) × (puzzle_of input ≡ Ok p) × CountsPackings p text
 IsListed (jobs.Puzzle puzzle_jobs.Classes) input text = (p : PuzzleValue) × (puzzle_of input ≡ Ok p) × CountsClasses p text
 IsListed (jobs.Puzzle puzzle_jobs.Options) input text = (p : PuzzleValue) × (puzzle_of input ≡ Ok p) × (text ≡ written (packing_problem p))
+IsListed (jobs.Puzzle (puzzle_jobs.SolveUpTo group)) input text = (p : PuzzleValue) × (puzzle_of input ≡ Ok p) × ListsDistinct group p text
+IsListed (jobs.Puzzle (puzzle_jobs.CountUpTo group)) input text = (p : PuzzleValue) × (puzzle_of input ≡ Ok p) × CountsDistinct group p text
+IsListed (jobs.Puzzle (puzzle_jobs.OptionsUpTo group)) input text = (p : PuzzleValue) × (puzzle_of input ≡ Ok p) × GivesSmaller group p text
 IsListed (jobs.Puzzle puzzle_jobs.Debug) input text = (p : PuzzleValue) × (puzzle_of (problem_text input) ≡ Ok p)
     × (text ≡ debug_output (command_lines input) (packing_problem p))
 IsListed (jobs.Resume steps list) input text = (v : SnapshotValue) × (snapshot_of input ≡ Ok v) × IsSnapshot v × TellsStretch steps list v text

@@ -22,10 +22,11 @@ use Rattle.poly_texts.specs.Reading.{puzzle_of}
 use Rattle.poly_place.specs.Packings.{packing_problem}
 use Rattle.lab_pool.specs.declared.fault.PoolFault.{PoolFault}
 use Rattle.lab_pool.specs.Faults as pool_faults
-use Rattle.polylab_engine.specs.Output.{cover_output}
+use Rattle.polylab_engine.specs.Output.{cover_output, cover_count_output}
 use Rattle.polylab_engine.specs.First.{first_cover_output, first_packings_output}
 use Rattle.polylab_engine.specs.Packed.{solve_output, count_output, options_output}
 use Rattle.polylab_engine.specs.Classified.{classes_output}
+use Rattle.polylab_engine.specs.UpTo.{solve_up_to_output, count_up_to_output, options_up_to_output}
 use Rattle.debug_script.specs.Input.{problem_text, command_lines}
 use Rattle.polylab_engine.specs.Debugged.{debug_output}
 use Rattle.x_snapshot.specs.declared.fault.SnapshotFault.{SnapshotFault}
@@ -81,6 +82,7 @@ puzzle_replies lines p = debug_output lines (packing_problem p)
 -- what a job writes of a problem; the debugger answers these command lines
 abbrev pub listing_of : CoverJob → List (List ℕ) → ProblemValue → List ℕ
 listing_of cover_jobs.List lines = cover_output
+listing_of cover_jobs.Count lines = cover_count_output
 listing_of (cover_jobs.First n) lines = first_cover_output n
 listing_of cover_jobs.Debug lines = debug_output lines
 
@@ -91,6 +93,9 @@ output_of (puzzle_jobs.First n) lines = first_packings_output n
 output_of puzzle_jobs.Count lines = count_output
 output_of puzzle_jobs.Classes lines = classes_output
 output_of puzzle_jobs.Options lines = options_output
+output_of (puzzle_jobs.SolveUpTo group) lines = solve_up_to_output group
+output_of (puzzle_jobs.CountUpTo group) lines = count_up_to_output group
+output_of (puzzle_jobs.OptionsUpTo group) lines = options_up_to_output group
 output_of puzzle_jobs.Debug lines = puzzle_replies lines
 
 -- what a job writes of the problem that was read, over the bytes of these commands; or the refusal of the text

@@ -1,7 +1,7 @@
 -- What `cover` writes: a line for each visit in path order, then how many visits and steps, and the levels.
 --
 -- Example: for the small problem `visit 4 5 1`, `visits 1`, `steps 43`, `levels 1 2 2 1` (proofs/OutputExamples.antt computes it).
-use Rattle.std.specs.Prelude.{ℕ, List, [], ◌∷◌, ◌++◌, Bool, true, map, decimal, codes}
+use Rattle.std.specs.Prelude.{ℕ, List, [], ◌∷◌, ◌++◌, Bool, true, false, map, decimal, codes}
 use Rattle.text_lines.specs.Writing.{text_of}
 use Rattle.cover_problem.specs.Problem.{ProblemValue}
 use Rattle.x_steps.specs.StateValue.{start, done}
@@ -32,3 +32,9 @@ whole_report keeps p = report_of (whole_account keeps p)
 -- what `cover` writes of a problem: the report of its whole run
 unfoldable pub cover_output : ProblemValue → List ℕ
 cover_output p = report_text (whole_report true p)
+
+-- what `cover --count` writes of a problem: the lines after the visits
+unfoldable pub cover_count_output : ProblemValue → List ℕ
+cover_count_output p =
+    let r = whole_report false p in
+    text_of (total_lines r.visited r.steps r.levels)

@@ -30,6 +30,7 @@ NoPool fault = ⊥
 -- with which faults of workers a job on a cover text may end, where a search may end with these
 abbrev pub cover_faults : CoverJob → (PoolFault → Type 0) → PoolFault → Type 0
 cover_faults cover_jobs.List May = May
+cover_faults cover_jobs.Count May = May
 cover_faults (cover_jobs.First n) May = NoPool
 cover_faults cover_jobs.Debug May = MayEnd
 
@@ -40,6 +41,9 @@ puzzle_faults (puzzle_jobs.First n) May = NoPool
 puzzle_faults puzzle_jobs.Count May = May
 puzzle_faults puzzle_jobs.Classes May = May
 puzzle_faults puzzle_jobs.Options May = NoPool
+puzzle_faults (puzzle_jobs.SolveUpTo group) May = May
+puzzle_faults (puzzle_jobs.CountUpTo group) May = May
+puzzle_faults (puzzle_jobs.OptionsUpTo group) May = NoPool
 puzzle_faults puzzle_jobs.Debug May = MayEnd
 
 -- the same of any job

@@ -14,12 +14,13 @@ ghost use Rattle.shared_words.specs.Answers.{ReturnsItems};
 ghost use Rattle.x_snapshot.specs.Refusals.{TellsFault};
 
 use crate::classes::count_classes;
-use crate::cover::{covers, first_covers};
+use crate::cover::{count_covers, covers, first_covers};
 use crate::fault::JobFault;
 use crate::job::{CoverJob, Job, PuzzleJob};
 use crate::packed::{count, first_packings, options, solve};
 use crate::resumption::resume;
 use crate::tables::TableKind;
+use crate::up_to::{count_up_to, options_up_to, solve_up_to};
 use crate::workers::Workers;
 use cover_problem::{CoverFault, Problem, read_cover};
 use debug_language::write_snapshot_fault;
@@ -69,7 +70,7 @@ fn cover_job<W: Workers>(
     ensures why { IfErr result (IsWantOrPool (cover_faults job (W.refuses workers.now))) }
 {
     match job {
-        CoverJob::List | CoverJob::First(_) => {
+        CoverJob::List | CoverJob::Count | CoverJob::First(_) => {
             cover_answer::<W>(alloc, workers, job, problem_in(alloc, input), &[])
         }
         CoverJob::Debug => {
@@ -193,6 +194,7 @@ fn cover_text<W: Workers>(
 {
     match job {
         CoverJob::List => covers::<W>(alloc, workers, problem),
+        CoverJob::Count => count_covers::<W>(alloc, workers, problem),
         CoverJob::First(first) => Ok(first_covers(alloc, problem, workers.table(), first)?),
         CoverJob::Debug => workers.replies(alloc, problem, commands),
     }
@@ -263,6 +265,9 @@ fn packed_text<W: Workers>(
         PuzzleJob::Count => count::<W>(alloc, workers, compiled),
         PuzzleJob::Classes => count_classes::<W>(alloc, workers, compiled),
         PuzzleJob::Options => Ok(options(alloc, compiled)?),
+        PuzzleJob::SolveUpTo(group) => solve_up_to::<W>(alloc, workers, compiled, group),
+        PuzzleJob::CountUpTo(group) => count_up_to::<W>(alloc, workers, compiled, group),
+        PuzzleJob::OptionsUpTo(group) => Ok(options_up_to(alloc, compiled, group)?),
         PuzzleJob::Debug => workers.replies(alloc, compiled.problem(), commands),
     }
 }

@@ -1,8 +1,8 @@
-//! What `cover` writes, with `--first` and without it.
+//! What `cover` writes, with `--first` or `--count` and without.
 ghost use Rattle.std.specs.Prelude.{◌++◌, map, IfErr};
 ghost use Rattle.polylab_engine.specs.Refusals.{IsWantOrPool};
 ghost use Rattle.polylab_engine.specs.First.{cover_end, first_cover_output};
-ghost use Rattle.polylab_engine.specs.Output.{cover_output, report_text};
+ghost use Rattle.polylab_engine.specs.Output.{cover_output, cover_count_output, report_text};
 ghost use Rattle.text_lines.specs.Writing.{text_of};
 ghost use Rattle.x_texts.specs.Words.{visit_words};
 ghost use Rattle.text_lines.specs.Writes.{AddsLines};
@@ -31,6 +31,23 @@ pub fn covers<W: Workers>(
 {
     let report = workers.list(alloc, problem)?;
     Ok(report_text(alloc, report)?)
+}
+
+/// The number of exact covers of the problem, the steps and the levels. No cover is kept.
+#[tactic(auto, unfolding(crate::specs::Output::cover_count_output))]
+pub fn count_covers<W: Workers>(
+    alloc: Global,
+    workers: &W,
+    problem: &Problem,
+) -> Result<Vec<u8>, JobFault>
+    requires { W.ready workers.now }
+    ensures text { ReturnsItems result (cover_count_output problem.now) }
+    ensures why { IfErr result (IsWantOrPool (W.refuses workers.now)) }
+{
+    let report = workers.search(alloc, problem, false)?;
+    let mut text = Vec::new(alloc);
+    report.push_totals(&mut text)?;
+    Ok(text)
 }
 
 /// The visits that a report keeps, and then the number of all visits, the steps and the levels.

@@ -2,6 +2,8 @@
 ghost use Rattle.std.specs.Prelude.{◌≡◌};
 ghost use Rattle.polylab_engine.specs.Jobs.{is_first, takes_commands};
 
+use poly_place::Group;
+
 /// What the program is asked to do with its input.
 #[derive(Clone, Copy, Debug, PartialEq, Eq)]
 pub enum Job {
@@ -18,6 +20,8 @@ pub enum Job {
 pub enum CoverJob {
     /// List its exact covers.
     List,
+    /// Count its exact covers.
+    Count,
     /// List its first exact covers in path order, so many of them.
     First(u64),
     /// Take its search by commands, which follow it.
@@ -37,6 +41,12 @@ pub enum PuzzleJob {
     Classes,
     /// Write the cover text whose exact covers are its packings.
     Options,
+    /// Show one packing of each class: of those that symmetries of the group carry onto one another.
+    SolveUpTo(Group),
+    /// Count its packings and these classes, by a search that leaves out what symmetries repeat.
+    CountUpTo(Group),
+    /// Write the cover text of that search.
+    OptionsUpTo(Group),
     /// Take its search by commands, which follow it.
     Debug,
 }

@@ -18,10 +18,12 @@ mod searcher;
 mod stretch;
 mod tables;
 mod tally;
+mod up_to;
 mod visits;
 mod workers;
 
 pub use engine::{run_alone, run_together};
 pub use job::{CoverJob, Job, PuzzleJob};
+pub use poly_place::Group;
 pub use tables::TableKind;
 pub use workers::Team;

@@ -8,7 +8,7 @@ ghost use Rattle.x_steps.specs.Steps.{Fits};
 ghost use Rattle.x_steps.specs.Resume.{position};
 ghost use Rattle.polylab_engine.specs.Searcher.{machine_value, stands};
 
-use crate::tables::TableKind;
+use crate::tables::{TableKind, has_few_words};
 use cover_bits::{BitTable, has_room};
 use cover_links::LinkTable;
 use cover_problem::{Problem, Table};
@@ -85,6 +85,23 @@ fn preferred(alloc: Global, links: Machine<'_, LinkTable>) -> AnyMachine<'_>
     }
 }
 
+/// By bits where they have few words and there is memory for them, or else by the table that a short search prefers.
+fn first_preferred<'p>(
+    alloc: Global,
+    problem: &'p Problem,
+    state: &State,
+) -> Result<AnyMachine<'p>, AllocError>
+    requires { IsState problem.now state.now }
+    ensures { IfOk result (λ m. machine_value m ≡ position problem.now (state_value state.now)) }
+{
+    if has_few_words(problem) {
+        if let Ok(bits) = machine_at(alloc, problem, state) {
+            return Ok(AnyMachine::Bits(bits));
+        }
+    }
+    Ok(preferred(alloc, machine_at(alloc, problem, state)?))
+}
+
 /// By links where a short search from here on prefers them and there is memory for them, or else by bits.
 fn preferred_again(alloc: Global, bits: Machine<'_, BitTable>) -> AnyMachine<'_>
     ensures { machine_value result ≡ bits.entry }
@@ -113,7 +130,7 @@ fn any_at<'p>(
     ensures { IfOk result (λ m. machine_value m ≡ position problem.now (state_value state.now)) }
 {
     match table {
-        None => Ok(preferred(alloc, machine_at(alloc, problem, state)?)),
+        None => first_preferred(alloc, problem, state),
         Some(TableKind::Links) => Ok(AnyMachine::Links(machine_at(alloc, problem, state)?)),
         Some(TableKind::Bits) => {
             if !has_room(problem, 1) {

@@ -18,6 +18,15 @@ pub enum TableKind {
     Bits,
 }
 
+/// Up to this many items times words of 64 options no short search is made: going through all of them costs less than asking.
+const FEW_WORDS: u64 = 1_500;
+
+/// Whether bit sets are taken unasked, since there are few words to go through.
+pub fn has_few_words(problem: &Problem) -> bool {
+    let words = u64::from(problem.options()) / 64 + 1;
+    u64::from(problem.items()) * words <= FEW_WORDS
+}
+
 /// Whether a short search from the start of a problem's run prefers bit sets; not where there is no memory for it.
 fn start_prefers_bits(alloc: Global, problem: &Problem) -> bool {
     match machine_at::<LinkTable>(alloc, problem, &first_state(alloc)) {
@@ -34,7 +43,9 @@ fn preferred(alloc: Global, problem: &Problem, workers: u32) -> TableKind
     ensures { IsTableFor problem.now workers None (Some result) }
 {
     // Where bits have no room there is nothing to ask.
-    if has_room(problem, workers) && start_prefers_bits(alloc, problem) {
+    if has_room(problem, workers)
+        && (has_few_words(problem) || start_prefers_bits(alloc, problem))
+    {
         TableKind::Bits
     } else {
         TableKind::Links
@@ -52,8 +63,8 @@ fn bits_in_room(problem: &Problem, workers: u32) -> Option<TableKind>
     }
 }
 
-/// The table of a search by so many workers: the one that is asked for, or else the one that a short search prefers. None where bit
-/// sets are asked for and would take more memory than they may.
+/// The table of a search by so many workers: the one that is asked for, or else bit sets where they have few words, or the one that a
+/// short search prefers. None where bit sets are asked for and would take more memory than they may.
 pub fn table_for(
     alloc: Global,
     problem: &Problem,

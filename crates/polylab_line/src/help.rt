@@ -28,7 +28,8 @@ Exit statuses:
 
 pub(crate) const COVER: JobHelp = JobHelp {
     name: "cover",
-    usage: "polylab cover [--workers N | --first N] [--table links|bits] < COVER-TEXT",
+    usage: "polylab cover [[--workers N] [--count] | --first N] [--table links|bits]
+       < COVER-TEXT",
     about: "Lists the exact covers of a cover text.",
     text: "\
 The text names items, then options as lists of items. An exact cover is a set of
@@ -57,6 +58,8 @@ of Algorithm X, and how many paths of 0, 1, 2, .. choices it met.
 With --first N the search stops at the N-th cover, if there are so many: the
 first N are printed as above, and then the line `first N`. One worker finds them.
 
+With --count the lines `visit` are left out, and no cover is kept.
+
 With --workers N, N threads share the search; what is printed is the same.
 --table links takes dancing links and --table bits bit sets, where a short
 search chooses else; what is printed is the same. Bit sets of more than 25 MB
@@ -68,7 +71,8 @@ workers not done, 5 reading or writing failed.",
 
 pub(crate) const SOLVE: JobHelp = JobHelp {
     name: "solve",
-    usage: "polylab solve [--workers N | --first N] [--table links|bits] < PUZZLE",
+    usage: "polylab solve [--workers N | --first N] [--table links|bits]
+       [--up-to rotations|symmetries] < PUZZLE",
     about: "Shows every packing of a puzzle, in layers of text.",
     text: "\
 The text has a line for each piece, with its name (a letter or digit) and its
@@ -94,6 +98,11 @@ With --first N the search stops at the N-th packing, if there are so many: the
 first N are shown as above, and then the line `first N`. One worker finds them,
 often at once where a whole search would take years.
 
+With --up-to rotations it shows one packing of all that rotations of the region
+carry onto one another, whatever the names of the pieces, and with --up-to
+symmetries of all that rotations and reflections do; the last line is then as
+`rotations 1` or `symmetries 1`. The search leaves out what symmetry repeats.
+
 With --workers N, N threads share the search, and --table TABLE chooses how it
 keeps its options (see `cover --help`); what is printed is the same.
 
@@ -104,7 +113,8 @@ workers not done, 5 reading or writing failed.",
 
 pub(crate) const COUNT: JobHelp = JobHelp {
     name: "count",
-    usage: "polylab count [--workers N] [--table links|bits] [--classes] < PUZZLE",
+    usage: "polylab count [--workers N] [--table links|bits]
+       [--classes | --up-to rotations|symmetries] < PUZZLE",
     about: "Counts the packings of a puzzle.",
     text: "\
 It reads the text that `solve` reads, and prints the number of packings and of
@@ -122,10 +132,20 @@ many packings are left where those count as one that a rotation of the region,
 or a rotation or reflection, carries onto one another, whatever the names of
 the pieces. All packings are then kept in memory until the end.
 
+With --up-to rotations or --up-to symmetries one of these numbers comes after
+the number of packings, and the other lines are of a search that leaves out what
+symmetry repeats: for the two dominoes, up to rotations
+  packings 4
+  rotations 1
+  options 5
+  steps 19
+  levels 1 1 1
+
 With --workers N, N threads share the search; what is printed is the same. They
-keep what they posted until the end, about 1 GB for 10^10 steps at the depth of
-polycubes, more for deeper runs. One worker keeps these numbers alone. --table
-TABLE is as with `cover` (see `cover --help`).
+keep what they posted until the end, visits too: about 1 GB for 10^10 steps at
+the depth of polycubes, more for deeper runs, and 12 GB where visits are as many
+as with dominoes. One worker keeps these numbers alone. --table TABLE is as with
+`cover` (see `cover --help`).
 
 Exit statuses: 0 done, 2 command line refused, 3 text refused, 4 no memory or
 workers not done, 5 reading or writing failed.",
@@ -140,14 +160,24 @@ pub(crate) const TABLE: &str = "The table of the search; what is printed is the 
 
 pub(crate) const TABLES: &[&str] = &["links", "bits"];
 
+pub(crate) const UP_TO: &str =
+    "Up to which symmetries, by a search that leaves out what they repeat";
+
+pub(crate) const GROUPS: &[&str] = &["rotations", "symmetries"];
+
 pub(crate) const OPTIONS: JobHelp = JobHelp {
     name: "options",
-    usage: "polylab options < PUZZLE",
+    usage: "polylab options [--up-to rotations|symmetries] < PUZZLE",
     about: "Writes the cover text whose exact covers are the packings of a puzzle.",
     text: "\
 It reads the text that `solve` reads, and writes a text that `cover` reads: the
 items are the pieces, the cells, and what keeps equal pieces in order; the
 options are the ways to lay a piece, and to leave out spare copies.
+
+With --up-to rotations or --up-to symmetries it leaves out options that symmetry
+repeats: at one piece or cell, which a comment names, with how many packings
+each cover then stands for, where that is one number. Each packing of the puzzle
+is then like one for which a cover stands (see `solve --help`).
 
 Exit statuses: 0 done, 2 command line refused, 3 text refused, 4 no memory,
 5 reading or writing failed.",
@@ -228,6 +258,8 @@ A refusal is one line on standard error: `refused snapshot 5 NotOnRun`.
 Exit statuses: 0 done, 2 command line refused, 3 text refused, 4 no memory,
 5 reading or writing failed.",
 };
+
+pub(crate) const COUNT_ALONE: &str = "Prints their number, the steps and the levels alone";
 
 pub(crate) const FIRST: &str = "Stop at the N-th, for a worker alone, 1 to 18446744073709551615";
 

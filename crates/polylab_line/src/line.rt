@@ -8,7 +8,7 @@ ghost use Rattle.polylab_line.specs.Line.{status_of};
 use crate::help::{self, JobHelp};
 use clap::error::ErrorKind;
 use clap::{Arg, ArgAction, ArgMatches, Command, Error, value_parser};
-use polylab_engine::{CoverJob, Job, PuzzleJob, TableKind};
+use polylab_engine::{CoverJob, Group, Job, PuzzleJob, TableKind};
 use shared_words::MOST_WORKERS;
 use std::alloc::{AllocError, Global};
 
@@ -103,6 +103,13 @@ fn steps<'a>(alloc: Global) -> Arg<'a> {
         .help(help::STEPS)
 }
 
+/// The option that says by which symmetries packings are told apart. That a value is one of these words is `clap`'s to see.
+fn up_to<'a>(alloc: Global) -> Arg<'a> {
+    option(alloc, "up-to", "WORD")
+        .value_parser(help::GROUPS)
+        .help(help::UP_TO)
+}
+
 /// A job that lists all, or the first ones: `cover` or `solve`.
 fn listed<'a>(alloc: Global, told: &JobHelp) -> Result<Command<'a>, AllocError> {
     job(alloc, told)
@@ -111,12 +118,24 @@ fn listed<'a>(alloc: Global, told: &JobHelp) -> Result<Command<'a>, AllocError> 
         .arg(table(alloc))
 }
 
+/// The job `cover`.
+fn cover<'a>(alloc: Global) -> Result<Command<'a>, AllocError> {
+    let count = flag(alloc, "count", help::COUNT_ALONE);
+    listed(alloc, &help::COVER)?.arg(count.conflicts_with("first")?)
+}
+
+/// The job `solve`.
+fn solve<'a>(alloc: Global) -> Result<Command<'a>, AllocError> {
+    listed(alloc, &help::SOLVE)?.arg(up_to(alloc).conflicts_with("first")?)
+}
+
 /// The job `count`.
 fn count<'a>(alloc: Global) -> Result<Command<'a>, AllocError> {
     job(alloc, &help::COUNT)
         .arg(workers(alloc))?
         .arg(table(alloc))?
-        .arg(flag(alloc, "classes", help::CLASSES))
+        .arg(flag(alloc, "classes", help::CLASSES))?
+        .arg(up_to(alloc).conflicts_with("classes")?)
 }
 
 /// The job `resume`.
@@ -138,10 +157,10 @@ fn command<'a>(alloc: Global) -> Result<Command<'a>, AllocError> {
         .subcommand_required(true)
         // Without any word the answer is the help.
         .arg_required_else_help(true)
-        .subcommand(listed(alloc, &help::COVER)?)?
-        .subcommand(listed(alloc, &help::SOLVE)?)?
+        .subcommand(cover(alloc)?)?
+        .subcommand(solve(alloc)?)?
         .subcommand(count(alloc)?)?
-        .subcommand(job(alloc, &help::OPTIONS))?
+        .subcommand(job(alloc, &help::OPTIONS).arg(up_to(alloc))?)?
         .subcommand(job(alloc, &help::DEBUG).arg(flag(alloc, "cover", help::OF_COVER))?)?
         .subcommand(resume(alloc)?)
 }
@@ -163,6 +182,16 @@ fn table_in(words: &ArgMatches<'_>) -> Option<TableKind> {
         Some("links") => Some(TableKind::Links),
         Some("bits") => Some(TableKind::Bits),
         // The words are those of `help::TABLES`, which `clap` has compared: no other comes here.
+        _ => None,
+    }
+}
+
+/// The symmetries that the words of a job ask for, if they ask for some.
+fn group_in(words: &ArgMatches<'_>) -> Option<Group> {
+    match words.get_str("up-to") {
+        Some("rotations") => Some(Group::Rotations),
+        Some("symmetries") => Some(Group::Symmetries),
+        // The words are those of `help::GROUPS`, which `clap` has compared: no other comes here.
         _ => None,
     }
 }
@@ -189,10 +218,12 @@ fn request_in(matches: &ArgMatches<'_>) -> Request
 /// The job of this name that the words after it ask for.
 fn job_of(name: &str, words: &ArgMatches<'_>) -> Job {
     match name {
-        "solve" => solving(words.get_one::<u64>("first")),
-        "count" if words.get_flag("classes") => Job::Puzzle(PuzzleJob::Classes),
-        "count" => Job::Puzzle(PuzzleJob::Count),
-        "options" => Job::Puzzle(PuzzleJob::Options),
+        "solve" => solving(words.get_one::<u64>("first"), group_in(words)),
+        "count" => counting(words.get_flag("classes"), group_in(words)),
+        "options" => Job::Puzzle(match group_in(words) {
+            Some(group) => PuzzleJob::OptionsUpTo(group),
+            None => PuzzleJob::Options,
+        }),
         "debug" if words.get_flag("cover") => Job::Cover(CoverJob::Debug),
         "debug" => Job::Puzzle(PuzzleJob::Debug),
         "resume" => Job::Resume {
@@ -200,24 +231,37 @@ fn job_of(name: &str, words: &ArgMatches<'_>) -> Job {
             list: words.get_flag("list"),
         },
         // `cover`: `clap` knows no other name.
-        _ => listing(words.get_one::<u64>("first")),
+        _ => listing(words.get_one::<u64>("first"), words.get_flag("count")),
     }
 }
 
-/// The job of all packings, or of the first ones, if a number is asked for.
-fn solving(first: Option<u64>) -> Job {
-    match first {
-        Some(first) => Job::Puzzle(PuzzleJob::First(first)),
-        None => Job::Puzzle(PuzzleJob::Solve),
-    }
+/// The job of all packings, or of the first ones, if a number is asked for, or of one of each class, if a group is. `clap` lets no line
+/// ask for both.
+fn solving(first: Option<u64>, group: Option<Group>) -> Job {
+    Job::Puzzle(match (first, group) {
+        (Some(first), _) => PuzzleJob::First(first),
+        (None, Some(group)) => PuzzleJob::SolveUpTo(group),
+        (None, None) => PuzzleJob::Solve,
+    })
 }
 
-/// The job of all exact covers, or of the first ones, if a number is asked for.
-fn listing(first: Option<u64>) -> Job {
-    match first {
-        Some(first) => Job::Cover(CoverJob::First(first)),
-        None => Job::Cover(CoverJob::List),
-    }
+/// The job of the number of packings, also of their classes, if these are asked for, or by a search up to symmetry, if a group is. `clap`
+/// lets no line ask for both.
+fn counting(classes: bool, group: Option<Group>) -> Job {
+    Job::Puzzle(match group {
+        Some(group) => PuzzleJob::CountUpTo(group),
+        None if classes => PuzzleJob::Classes,
+        None => PuzzleJob::Count,
+    })
+}
+
+/// The job of all exact covers, or of the first ones, if a number is asked for, or of their number alone. `clap` lets no line ask for both.
+fn listing(first: Option<u64>, count: bool) -> Job {
+    Job::Cover(match first {
+        Some(first) => CoverJob::First(first),
+        None if count => CoverJob::Count,
+        None => CoverJob::List,
+    })
 }
 
 /// What is asked for, but for workers who would have to share the search for the first ones.

@@ -2,7 +2,7 @@
 
 use crate::ending::ending_under;
 use lab_pool::NoGate;
-use polylab_engine::{CoverJob, Job, PuzzleJob, TableKind};
+use polylab_engine::{CoverJob, Group, Job, PuzzleJob, TableKind};
 use polylab_line::{LineFault, Request, parse_line};
 use std::alloc::Global;
 use std::process::Abort;
@@ -12,7 +12,7 @@ use std::thread::Threads;
 /// Words, and what they ask for: a job, how many workers, and a table, if one is named.
 struct Line(&'static [&'static str], Job, u32, Option<TableKind>);
 
-static LINES: [Line; 22] = [
+static LINES: [Line; 29] = [
     Line(&["cover"], Job::Cover(CoverJob::List), 1, None),
     Line(
         &["cover", "--workers", "2"],
@@ -31,6 +31,13 @@ static LINES: [Line; 22] = [
         Job::Cover(CoverJob::First(u64::MAX)),
         1,
         None,
+    ),
+    Line(&["cover", "--count"], Job::Cover(CoverJob::Count), 1, None),
+    Line(
+        &["cover", "--workers", "3", "--count", "--table=bits"],
+        Job::Cover(CoverJob::Count),
+        3,
+        Some(TableKind::Bits),
     ),
     Line(&["solve"], Job::Puzzle(PuzzleJob::Solve), 1, None),
     Line(
@@ -98,6 +105,36 @@ static LINES: [Line; 22] = [
         Some(TableKind::Links),
     ),
     Line(&["options"], Job::Puzzle(PuzzleJob::Options), 1, None),
+    Line(
+        &["solve", "--up-to", "rotations"],
+        Job::Puzzle(PuzzleJob::SolveUpTo(Group::Rotations)),
+        1,
+        None,
+    ),
+    Line(
+        &["solve", "--workers", "2", "--up-to=symmetries"],
+        Job::Puzzle(PuzzleJob::SolveUpTo(Group::Symmetries)),
+        2,
+        None,
+    ),
+    Line(
+        &["count", "--up-to", "symmetries", "--table", "bits"],
+        Job::Puzzle(PuzzleJob::CountUpTo(Group::Symmetries)),
+        1,
+        Some(TableKind::Bits),
+    ),
+    Line(
+        &["count", "--up-to=rotations", "--workers=8"],
+        Job::Puzzle(PuzzleJob::CountUpTo(Group::Rotations)),
+        8,
+        None,
+    ),
+    Line(
+        &["options", "--up-to", "rotations"],
+        Job::Puzzle(PuzzleJob::OptionsUpTo(Group::Rotations)),
+        1,
+        None,
+    ),
     Line(&["debug"], Job::Puzzle(PuzzleJob::Debug), 1, None),
     Line(&["debug", "--cover"], Job::Cover(CoverJob::Debug), 1, None),
     Line(
@@ -197,7 +234,7 @@ fn help_is_given(rt: HostRuntime) {
     assert_end(&rt, rt.alloc(), &HELPED, 0, true, false);
 }
 
-static REFUSED: [Words; 34] = [
+static REFUSED: [Words; 49] = [
     Words(&[]),
     Words(&["cover", "--first", "0"]),
     Words(&["solve", "--first", "x"]),
@@ -206,6 +243,9 @@ static REFUSED: [Words; 34] = [
     Words(&["cover", "--first", "1", "--workers", "2"]),
     Words(&["solve", "--workers=32", "--first=1"]),
     Words(&["count", "--first", "1"]),
+    Words(&["cover", "--count", "--first", "1"]),
+    Words(&["cover", "--count=1"]),
+    Words(&["solve", "--count"]),
     Words(&["covers"]),
     Words(&["cover", "--workers", "0"]),
     Words(&["solve", "--workers", "33"]),
@@ -232,6 +272,18 @@ static REFUSED: [Words; 34] = [
     Words(&["options", "--table", "links"]),
     Words(&["debug", "--table", "bits"]),
     Words(&["resume", "--table", ""]),
+    Words(&["solve", "--up-to"]),
+    Words(&["count", "--up-to", ""]),
+    Words(&["options", "--up-to", "rotation"]),
+    Words(&["solve", "--up-to", "Symmetries"]),
+    Words(&["solve", "--up-to", "rotations", "--first", "1"]),
+    Words(&["solve", "--first=1", "--up-to=symmetries"]),
+    Words(&["count", "--up-to", "rotations", "--classes"]),
+    Words(&["count", "--classes", "--up-to", "symmetries"]),
+    Words(&["cover", "--up-to", "rotations"]),
+    Words(&["resume", "--up-to", "rotations"]),
+    Words(&["debug", "--up-to", "rotations"]),
+    Words(&["options", "--up-to", "rotations", "--up-to", "symmetries"]),
 ];
 
 #[test]

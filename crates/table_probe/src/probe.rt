@@ -8,8 +8,8 @@ use cover_problem::Table;
 use std::alloc::{AllocError, Global};
 use x_steps::{Cursor, Label, Machine};
 
-/// The most steps of a probe: 4,000 nodes have some 8 steps each.
-const MOST_STEPS: u32 = 32_000;
+/// The most steps of a probe: 1,000 nodes have some 8 steps each.
+const MOST_STEPS: u32 = 8_000;
 
 /// Where links have paid so much the probe ends: three for each item looked at and eight for each node hidden make 4,000,000.
 const MOST_COST: u128 = 12_000_000;
@@ -80,7 +80,7 @@ fn step_on<T: Table>(words: &mut Words, machine: &mut Machine<'_, T>) -> bool
     true
 }
 
-/// Takes steps and counts what they cost, 32,000 of them, or fewer where links have paid enough before or the search ends.
+/// Takes steps and counts what they cost, 8,000 of them, or fewer where links have paid enough before or the search ends.
 fn walk_on<T: Table>(words: &mut Words, machine: &mut Machine<'_, T>)
     requires { HasWords machine.old.problem words.old }
     ensures { machine.new.problem ≡ machine.old.problem }
@@ -95,7 +95,7 @@ fn walk_on<T: Table>(words: &mut Words, machine: &mut Machine<'_, T>)
     }
 }
 
-/// What the next steps of a search cost, 32,000 of them, or fewer where links have paid enough before or the search ends. The machine
+/// What the next steps of a search cost, 8,000 of them, or fewer where links have paid enough before or the search ends. The machine
 /// stands where it stood.
 pub fn costs_ahead<T: Table>(
     alloc: Global,

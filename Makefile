@@ -5,7 +5,7 @@ ZSH_FUNCTIONS = $(PREFIX)/share/zsh/site-functions
 # The scripts that are installed, each as the command polylab-NAME; those of dev/ are for this checkout.
 COMMANDS = answer check_packings convert count_packings draw_packings explain invent join one_of_each page parts pieces run session slices slurm_array studio unique
 # What these read from beside them.
-PARTS = burrtools.py cells.py classes.py colours.py copies.py covers.py drawing.py frame.py numbering.py packings.py polylab.py puzzles.py searched.py snapshots.py solids.py texts.py times.py \
+PARTS = burrtools.py cells.py classes.py colours.py copies.py covers.py drawing.py frame.py numbering.py packings.py polylab.py puzzles.py searched.py snapshots.py solids.py texts.py times.py up_to.py \
 	page.css page_common.js page_packings.js page_search.js page_solid.js page_turn.js \
 	faults.py files.py fitting.py pictures.py polycubes.py shares.py sheets.py sliced.py ways.py \
 	studio_desk.py studio_files.py studio_puzzle.py studio_runs.py studio_search.py studio_server.py studio.css studio.html studio_link.html \
@@ -35,16 +35,16 @@ FIRST = first/bricks-6x6x6
 CHECKS_OF_TEXTS = check-names check-lemmas check-edits check-waiting check-sentences check-ownership check-scripts
 
 .PHONY: all quick help scripts build ci layout wrong-bodies bench install uninstall dist gallery gallery-long $(CHECKS_OF_TEXTS) check-frame check-install \
-	check-dist check-tools check-texts check-refused check-rows check-sessions check-parts check-docs check-words check-completions check-page \
-	check-studio check-statuses check-memory check-memory-all
+	check-dist check-tools check-texts check-refused check-rows check-up-to check-sessions check-parts check-docs check-words check-completions \
+	check-page check-studio check-statuses check-memory check-memory-all
 
 # All that follows but gallery-long, check-memory-all, bench, ci and wrong-bodies: some ten minutes once the program is built.
-all: $(CHECKS_OF_TEXTS) check-frame check-install check-dist build gallery check-tools check-texts check-refused check-rows check-sessions check-parts \
-	check-docs check-words check-completions check-page check-studio check-statuses check-memory
+all: $(CHECKS_OF_TEXTS) check-frame check-install check-dist build gallery check-tools check-texts check-refused check-rows check-up-to check-sessions \
+	check-parts check-docs check-words check-completions check-page check-studio check-statuses check-memory
 
 # The checks that a landing has to pass after the gate: some three minutes once the program is built. Without check-edits while records are
 # due of wrong bodies that are tried beside the gate (docs/GATE.md).
-quick: $(filter-out check-edits,$(CHECKS_OF_TEXTS)) check-install build gallery check-refused check-rows check-sessions check-docs check-words \
+quick: $(filter-out check-edits,$(CHECKS_OF_TEXTS)) check-install build gallery check-refused check-rows check-up-to check-sessions check-docs check-words \
 	check-statuses check-memory
 
 # This list.
@@ -216,6 +216,11 @@ check-refused: build
 # Texts whose output, error line and status are known byte for byte (dev/rows), and some that are made: some 2,700 runs, seconds.
 check-rows: build
 	@dev/check_rows
+
+# Of puzzles drawn at random what is counted and shown up to symmetry is what is found by trying all, and by --classes: ten seconds.
+# PUZZLES=2000 draws that many.
+check-up-to: build
+	@dev/check_up_to $(PUZZLES)
 
 # Sessions of the debugger are answered as was worked out by hand, and drawn ones, with pools among them, agree: seconds.
 check-sessions: build

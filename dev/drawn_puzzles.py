@@ -1,10 +1,11 @@
 """Small puzzles drawn at random, with cells and pieces that may be left out, copies and pieces that are used any number of times: one_of_each, page
-and unique count of what the program prints what is counted here by trying all, and what `count --classes` says. Without the puzzle they say no
-number. Called by dev/check_tools, with a folder, the number of puzzles and perhaps a seed. Plain Python, NOT PROVED; it trusts nothing."""
+and unique count of what the program prints what is counted here by trying all, and what `count --classes` says; and check_packings takes what the
+program prints, also up to symmetry. Without the puzzle they say no number. Called by dev/check_tools, with a folder, the number of puzzles and perhaps a seed. Plain Python, NOT PROVED; it trusts nothing."""
 
 import json
 import os
 import random
+import resource
 import subprocess
 import sys
 from collections import Counter
@@ -13,6 +14,7 @@ from itertools import product
 from tree import TOP  # (first: it leads to the modules of tools/)
 from broken_texts import ended
 from cells import least_corner, moved, shifted, symmetries, word
+from packings import GROUPS
 from puzzles import Puzzle, placements
 
 SIZES = ((2, 2, 1), (4, 1, 1), (3, 2, 1), (4, 2, 1), (3, 3, 1), (4, 3, 1), (5, 3, 1), (4, 4, 1), (2, 2, 2), (3, 2, 2), (3, 3, 2))
@@ -22,6 +24,10 @@ WORDS = "piece", "maybe", "any", "mirror", "copies", "cells", "cut"
 WITHOUT = 5
 # A puzzle is taken if it has packings, and at most this number.
 MOST = 400
+# A run of the program takes this number of bytes, and of seconds, at most.
+MEMORY, PATIENCE = 1500 << 20, 60
+# How many runs took more time than that, or more memory: their puzzles are passed over.
+PASSED = Counter()
 
 
 def piece(draw, cells):
@@ -52,9 +58,19 @@ def text_of(draw):
     return "\n".join(lines) + "\n"
 
 
+def bounded():
+    """A run of the program has this much memory at most."""
+    resource.setrlimit(resource.RLIMIT_AS, (MEMORY, MEMORY))
+
+
 def run(*words, text=None):
-    """What the program prints, or None where it refuses."""
-    done = subprocess.run([PROGRAM, *words], input=text.encode(), stdout=subprocess.PIPE, stderr=subprocess.DEVNULL)
+    """What the program prints, or None if it refuses, or takes more memory or time than a puzzle may that is drawn here."""
+    try:
+        done = subprocess.run([PROGRAM, *words], input=text.encode(), stdout=subprocess.PIPE, stderr=subprocess.DEVNULL, preexec_fn=bounded, timeout=PATIENCE)
+    except subprocess.TimeoutExpired:
+        PASSED["slow"] += 1
+        return None
+    PASSED["large"] += done.returncode not in (0, 3)
     return done.stdout.decode() if done.returncode == 0 else None
 
 
@@ -138,24 +154,28 @@ def given(puzzle, found):
 
 def fault(text, solved, work):
     """What is wrong with what the scripts say of a puzzle, or None."""
-    puzzle, paths = Puzzle(text), {name: os.path.join(work, "drawn." + name) for name in ("puzzle", "solved")}
+    puzzle, paths = Puzzle(text), {name: os.path.join(work, "drawn." + name) for name in ("puzzle", "solved", *GROUPS)}
     found = [*packings(puzzle)]
     counted = dict(line.split(" ", 1) for line in run("count", "--classes", text=text).splitlines())
     if int(counted["packings"]) != len(found):
         return "%s packings, and here are %d" % (counted["packings"], len(found))
-    for name, written in (("puzzle", text), ("solved", solved)):
+    for name, written in (("puzzle", text), ("solved", solved), *((group, run("solve", "--up-to", group, text=text)) for group in GROUPS)):
         with open(paths[name], "w", encoding="ascii") as file:
             file.write(written)
     given_puzzle = "--puzzle", paths["puzzle"]
     for option, wanted in ((), "symmetries"), (("--rotations",), "rotations"):
         many = len({*classes(puzzle, found, bool(option))})
         status, said = ended("one_of_each", [*option, *given_puzzle, paths["solved"]], work)
-        if [status, *said.splitlines()[-1:]] != [0, "packings " + counted[wanted]] or many != int(counted[wanted]):
+        if [status, *said.splitlines()[-1:]] != [0, "%s %s" % (wanted, counted[wanted])] or many != int(counted[wanted]):
             return "one_of_each says %s, count says %s %s, and here are %d" % (said.splitlines()[-1:], wanted, counted[wanted], many)
         status, said = ended("page", [*option, *given_puzzle, paths["solved"]], work)
         data = json.loads(said.partition("const DATA = ")[2].partition(";\n")[0])
         if len({*data.get("classes", [0])}) != many:
             return "page has %s, and %d classes are here" % (data.get("classes"), many)
+        for shown, number in ((wanted, many), ("solved", len(found))):
+            status, said = ended("check_packings", [paths["puzzle"], paths[shown]], work)
+            if [status, said] != [0, "ok %d\n" % number]:
+                return "check_packings of %s says %s" % (shown, said)
     wanted = unique(puzzle, found, classes(puzzle, found, False))
     status, said = ended("unique", [*given_puzzle, paths["solved"]], work)
     if status or {*said.splitlines()} != wanted | {"unique %d" % len(wanted)}:
@@ -202,6 +222,8 @@ def main(work, many, seed):
             sys.exit("drawn_puzzles: of this puzzle %s:\n%s" % (what, text))
         done += 1
         words.update({word for line in text.splitlines() for word in line.split(" ", 2)[:2]} & {*WORDS})
+    if PASSED.total():
+        print("passed over %d puzzles, which take too much time or memory" % PASSED.total())
     assert all(words[word] * 10 >= many for word in WORDS), words
 
 

@@ -127,7 +127,7 @@ SCRIPTS = {
     "pairs": ("one_of_each --puzzle PUZZLE", "page --puzzle PUZZLE"),
 }
 LAST = {
-    "one_of_each --puzzle PUZZLE": "packings %d" % MANY, "unique --puzzle PUZZLE": "unique %d" % MANY, "unique --given --puzzle PUZZLE": "unique 0",
+    "one_of_each --puzzle PUZZLE": "symmetries %d" % MANY, "unique --puzzle PUZZLE": "unique %d" % MANY, "unique --given --puzzle PUZZLE": "unique 0",
     "check_packings PUZZLE": "ok %d" % MANY,
 }
 
@@ -137,7 +137,7 @@ def main(work):
     write_rows(work)
     for kind in "copies", "turn":
         _, last = taken("one_of_each --puzzle PUZZLE", os.path.join(work, kind))
-        assert last == "packings %d" % CLASSES, "%s: %s" % (kind, last)
+        assert last == "symmetries %d" % CLASSES, "%s: %s" % (kind, last)
     for kind, scripts in SCRIPTS.items():
         for script in scripts:
             (less, _), (more, last) = (taken(script, os.path.join(work, "%s-%d" % (kind, many))) for many in (FEW, MANY))

@@ -166,6 +166,13 @@ def check_search(studio):
     studio.post("search", kind="classes", text=SOMA)
     now = waited(answer, "done")
     need((now["found"], now["of"]) == (240, 11520), "%s classes of %s" % (now["found"], now["of"]))
+    need(now["lines"][:2] == ["packings 11520", "symmetries 240"], "the classes are %s" % now["lines"])
+    # (of these no two visits of the smaller problem are alike)
+    with open(os.path.join(TOP, "examples", "puzzles", "tetracubes-2x2x8.puzzle"), encoding="ascii") as file:
+        studio.post("search", kind="classes", text=file.read())
+    now = waited(answer, "done")
+    need((now["found"], now["of"], now["lines"][:2]) == (112, 1792, ["packings 1792", "symmetries 112"]), "%s classes of %s: %s" % (now["found"], now["of"], now["lines"]))
+    need(studio.ask("POST", "/%s/solved" % studio.secret, b"{}")[1].endswith(b"symmetries 112\n"), "what is kept has another last line")
     with open(os.path.join(TOP, "examples", "first", "bricks-6x6x6.puzzle"), encoding="ascii") as file:
         long = file.read()
     studio.post("search", kind="count", text=long)

@@ -22,6 +22,9 @@ def main():
     counted = polylab.count(DOMINOES, classes=True)
     assert counted == (4, 8, 55, [1, 4, 4], 1, 1), counted
     assert polylab.count(DOMINOES).symmetries is None
+    for up_to in "rotations", "symmetries":
+        counted = polylab.count(DOMINOES, up_to=up_to)
+        assert (counted.packings, getattr(counted, up_to)) == (4, 1) and len(polylab.solve(DOMINOES, up_to=up_to)) == 1, counted
     # (the first packing of docs/FORMATS.md)
     assert polylab.solve(DOMINOES)[0] == {"A": [(0, 0, 0), (0, 1, 0)], "B": [(1, 0, 0), (1, 1, 0)]}
     assert len(polylab.solve(DOMINOES)) == 4 and len(polylab.first(DOMINOES, 3)) == 3 and len(polylab.first(DOMINOES, 9)) == 4

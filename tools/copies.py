@@ -50,8 +50,8 @@ def ways_of(parts):
 
 class Copies:
     """Packings one after the other with a mark for each copy of a piece that is used any number of times, as Y1, Y2, .. Those of one symbol are
-    drawn alike, so which cells make a copy has to be found; of packings that look the same, each is given another way. Without a puzzle all stay
-    as they are."""
+    drawn alike, so which cells make a copy has to be found; of packings that look the same, each is given another way, which is right as a whole
+    if all packings come. `is_sure` as long as each look has one way. Without a puzzle all stay as they are."""
 
     def __init__(self, puzzle=None):
         self.pieces = [piece for piece in puzzle.pieces if piece.need == "any"] if puzzle else []
@@ -66,7 +66,7 @@ class Copies:
             self.drawn = {bit: at for at, bit in enumerate(self.bits) if bit}
             self.puts = [ways_to_lie(piece, order, bits, filled) for piece in self.pieces]
         # For each look of several ways how often it came; and of those that came last what finds their next way.
-        self.looks, self.times, self.ways = Numbering(), array("I"), OrderedDict()
+        self.looks, self.times, self.ways, self.is_sure = Numbering(), array("I"), OrderedDict(), True
 
     def told(self, packing):
         """A packing with its copies told apart."""
@@ -77,6 +77,17 @@ class Copies:
         way = self.way(packing)
         if way is None:
             stop("packing %d is none of this puzzle: its pieces that are used any number of times have other shapes" % packing.number)
+        return self.marked(packing, way)
+
+    def only(self, packing):
+        """A packing with its copies told apart if there is one way to do so; else None. So it may be asked of some packings alone."""
+        if not self.pieces:
+            return packing
+        ways = list(islice(self.ways_to_lay(packing.marks), 2)) if packing.size == self.size else []
+        return self.marked(packing, ways[0]) if len(ways) == 1 else None
+
+    def marked(self, packing, way):
+        """A packing whose copies are marked as they lie in one of these ways."""
         marks = list(packing.marks)
         for piece, laid in zip(self.pieces, way):
             for at, put in enumerate(laid, 1):
@@ -94,6 +105,7 @@ class Copies:
             two = list(islice(made := self.ways_to_lay(packing.marks), 2))
             if len(two) < 2:
                 return two[0] if two else None
+            self.is_sure = False
             ways = islice(chain(two, made), self.times_of(key), None)
         way = next(ways, None)
         self.times[self.looks.number(key)] += 1

@@ -6,7 +6,7 @@
 # Finds the files among the words of a job: how many they are, the first two, and at which place the first one is, and a word `--`. Where a
 # word is no option of a job, none is looked for, and the program refuses all words as they are, or prints its help.
 find_files() {
-    files=0 file='' second='' place=0 dashes=0 at=1
+    files=0 file='' second='' place=0 dashes=0 at=1 group=''
     case ${1:-} in
         solve | count | options | cover | debug | resume) shift ;;
         *) return ;;
@@ -15,13 +15,15 @@ find_files() {
         at=$((at + 1))
         case $dashes:$1 in
             0:--) dashes=$at ;;
-            0:--workers | 0:--first | 0:--table | 0:--steps)
+            0:--workers | 0:--first | 0:--table | 0:--steps | 0:--up-to)
                 # (what follows is the option's number or word, and not a file)
                 [ $# -gt 1 ] || return
+                [ "$1" != --up-to ] || group=$2
                 at=$((at + 1))
                 shift
                 ;;
-            0:--workers=* | 0:--first=* | 0:--table=* | 0:--steps=* | 0:--classes | 0:--cover | 0:--list) ;;
+            0:--up-to=*) group=${1#*=} ;;
+            0:--workers=* | 0:--first=* | 0:--table=* | 0:--steps=* | 0:--classes | 0:--cover | 0:--list | 0:--count) ;;
             0:-?*)
                 [ "$1" = - ] || { files=0; return; }
                 ;;
@@ -72,14 +74,14 @@ tell_later() {
     done
     case $1 in
         cover) slices="$slices --cover" first='cover --first N' ;;
-        *) first='solve --first N' ;;
+        *) slices="$slices${group:+ --up-to $group}" first='solve --first N' ;;
     esac
     echo "polylab: at work for $waited seconds, and writes once all is found; $slices FILE counts and tells what is left, $first stops early" >&2
     # The same search, of a file and on a processor that is free, tells how far this one is.
     if [ -f /dev/fd/3 ] && [ "$(nproc 2> /dev/null || echo 1)" -gt 1 ]; then
         case $1 in
             cover) set -- --cover ;;
-            *) set -- ;;
+            *) set -- ${group:+--up-to "$group"} ;;
         esac
         POLYLAB=$program exec nice -n 19 "$watcher" "$@" --watch $$ /dev/fd/3 3<&3
     fi
@@ -133,7 +135,12 @@ start() {
     fi
     if [ -t 2 ] && [ ! -t 0 ]; then
         case ${1:-} in
-            solve | count | cover) tell_later "$1" 3<&0 < /dev/null > /dev/null & ;;
+            solve | count | cover)
+                # (a shell may give a job in the background another standard input before it looks at `3<&0`)
+                exec 3<&0
+                tell_later "$1" < /dev/null > /dev/null &
+                exec 3<&-
+                ;;
         esac
     fi
     case ${1:-} in

@@ -8,6 +8,11 @@ from frame import Progress, Stop, escaped, read_lines
 
 # What is drawn: names of pieces, `_` for an empty cell, and `.` outside the region.
 MARKS = {*string.ascii_letters, *string.digits, *"._"}
+# The words of --up-to, which also begin the last line that `solve --up-to` prints.
+GROUPS = ("rotations", "symmetries")
+# What begins the last line of a list, and what begins a line that is no row of a drawing.
+LAST_WORDS = ("packings", "first", *GROUPS)
+FIRST_WORDS = ("packing", *LAST_WORDS)
 
 
 class Packing:
@@ -38,18 +43,27 @@ def places_of(size):
 
 class Solved:
     """Goes once through the packings in a file, or those of standard input where there is none, as far as they are all there. Then `count` is how many
-    they were, `total` the number in the last line, None where there is none, and `is_first` whether `solve --first` wrote that line, so that
-    there may be more. Lines in place of a file's name are taken as they come."""
+    they were, and `last` and `total` are the word and the number in the last line, None where there is none: `is_first` if `solve --first` wrote it, so
+    that there may be more, and `group` is the word of `solve --up-to` if that wrote it, so that there is one packing of each class. Lines in place
+    of a file's name are taken as they come."""
 
     def __init__(self, path):
         self.lines = read_lines(path or "-") if path is None or isinstance(path, str) else path
-        self.count, self.total, self.is_first = 0, None, False
+        self.count, self.last, self.total = 0, None, None
+
+    @property
+    def is_first(self):
+        return self.last == "first"
+
+    @property
+    def group(self):
+        return self.last if self.last in GROUPS else None
 
     def __iter__(self):
         number, rows, progress = None, [], Progress("packings read")
         for line in self.lines:
             words = line.split()
-            if words[:1] not in (["packing"], ["packings"], ["first"]) or len(words) != 2:
+            if len(words) != 2 or words[0] not in FIRST_WORDS:
                 if number is None:
                     raise Stop("this isn't what `solve` printed: no line `packing` comes first")
                 rows.append(words)
@@ -62,16 +76,19 @@ class Solved:
                 yield packing(number, rows)
             number, rows = int(words[1]), []
             if words[0] != "packing":
-                self.total, self.is_first = number, words[0] == "first"
+                self.last, self.total = words[0], number
                 return
 
-    def all(self):
-        """The packings, where all that `solve` printed is there, and it is all packings; else the script ends after the last with a sentence."""
+    def all(self, groups=()):
+        """The packings, where all that `solve` printed is there, and it is all packings, or one of each class by one of these groups; else the script
+        ends after the last with a sentence."""
         yield from self
         if self.total is None:
             raise Stop("this isn't all that `solve` printed: no line `packings` comes last")
         if self.is_first:
             raise Stop("these are the first packings alone, and all are needed: `solve` prints them without --first")
+        if self.group and self.group not in groups:
+            raise Stop("this is one packing of each class by %s, and all are needed: `solve` prints them without --up-to" % self.group)
         if self.total != self.count:
             raise Stop("this isn't all that `solve` printed: the last line says %d, and %d packings were read" % (self.total, self.count))
 

@@ -2,7 +2,9 @@
 
     import polylab
     polylab.count(text).packings            # a puzzle text; also .options, .steps, .levels, and with classes=True .rotations, .symmetries
+    polylab.count(text, up_to="symmetries") # .packings and .symmetries by a search that leaves out what symmetry repeats; or "rotations"
     polylab.solve(text)                     # each packing as a dict from a piece's name to its cells (x, y, z)
+    polylab.solve(text, up_to="symmetries") # one packing of each class
     polylab.first(text, 10)                 # the first ten, or fewer where there are fewer
     polylab.packings(text)                  # the same one by one as they are found, slice by slice: what is left can still be stopped
     polylab.covers(text)                    # each exact cover of a cover text, also one by one, as a list of options; these are lists of items
@@ -59,10 +61,15 @@ def lines(words, text):
             raise Refused(ran.returncode, said.read().decode("utf-8", "replace").strip())
 
 
-def count(text, classes=False, workers=1):
+def up_to_words(up_to):
+    """The words of a search up to symmetry, or none."""
+    return ["--up-to", up_to] if up_to else []
+
+
+def count(text, classes=False, workers=1, up_to=None):
     """The numbers of `polylab count`."""
     found = dict.fromkeys(Count._fields)
-    for line in lines(["count", "--workers", str(workers), *["--classes"] * classes], text):
+    for line in lines(["count", "--workers", str(workers), *["--classes"] * classes, *up_to_words(up_to)], text):
         name, *numbers = line.split()
         found[name] = [int(it) for it in numbers] if name == "levels" else int(numbers[0])
     return Count(**found)
@@ -79,11 +86,11 @@ def drawn(rows):
     return found
 
 
-def solve(text, *words):
-    """All packings of a puzzle text."""
+def solve(text, *words, up_to=None):
+    """All packings of a puzzle text, or one of each class."""
     found, rows = [], []
-    for line in lines(["solve", *words], text):
-        if line.startswith(("packing ", "packings ", "first ")) and line.split()[1].isdecimal():
+    for line in lines(["solve", *words, *up_to_words(up_to)], text):
+        if line.startswith(("packing ", "packings ", "first ", "rotations ", "symmetries ")) and line.split()[1].isdecimal():
             if rows:
                 found.append(drawn(rows))
             rows = []

@@ -120,8 +120,9 @@ def booklet(text, title, lines, most):
             found.append((told.number, told.cells()))
     names -= {".", "_"}
     paints = paint(puzzle, text)
-    body = ["<p>%d pieces, and a region of %s. Here are %d of %s packings.</p>" % (
-        len(puzzle.pieces), so_many(len(puzzle.region)), len(found), "at least %d" % solved.count if solved.is_first else solved.count),
+    body = ["<p>%d pieces, and a region of %s. Here are %d of %s packings%s.</p>" % (
+        len(puzzle.pieces), so_many(len(puzzle.region)), len(found), "at least %d" % solved.count if solved.is_first else solved.count,
+        ", one of each class" if solved.group else ""),
         "<h2>The pieces</h2><div class=many>"]
     body += [figure(solid_of(moved(flat(piece.cells)), piece.name, paints[piece.name]), piece.name) for piece in puzzle.pieces] + ["</div>"]
     pictures = [functools.partial(picture, number, marks, colours(marks, names, own)) for number, marks in found]

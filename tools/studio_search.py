@@ -1,5 +1,6 @@
 """The one search of tools/studio: its slices, how far it is, how it is stopped and goes on, and what it found. Plain Python, NOT PROVED; it trusts the
-program for what each slice found, adds up what it says, and draws the packings by their options."""
+program for what each slice found, adds up what it says, and draws the packings by their options. One packing of each class is found by the smaller
+problem, which leaves out what symmetry repeats."""
 
 import contextlib
 import tempfile
@@ -10,7 +11,8 @@ from drawing import Drawing
 from frame import Stop, stop
 from shares import Estimate
 from sliced import Sliced, next_steps
-from snapshots import numbers, problem_text
+from snapshots import asked, number, numbers, problem_text
+from up_to import Smaller
 
 # A slice takes so many seconds, and has so many steps at least: on a machine that has much to do its start takes longer than the steps.
 SECONDS, FIRST = 1.0, 200000
@@ -18,26 +20,23 @@ SECONDS, FIRST = 1.0, 200000
 KEPT = 200000
 # What is searched for, and how many packings are kept of it.
 KINDS = {"first": 1, "all": KEPT, "classes": KEPT, "count": 0}
-
-
-def one_of_each(runs, text, solved, begun):
-    """One packing of each class, as `solve` prints them: a file. This is the one place where classes are made."""
-    return runs.tool("one_of_each", ["--puzzle", "{puzzle}"], solved, text, begun)[0]
+# Packings of one class are those that these carry onto one another.
+GROUP = "symmetries"
 
 
 class Found:
-    """The packings that a search found, as `solve` prints them, in a file without a name; and whether these are all. Others may ask for them while the
-    search finds more."""
+    """The packings that a search found, as `solve` prints them, in a file without a name; and whether these are all, or one of each class. Others may ask
+    for them while the search finds more."""
 
-    def __init__(self, text, most):
+    def __init__(self, text, most, is_smaller):
         self.text, self.most, self.file, self.many, self.draws, self.is_whole = text, most, tempfile.TemporaryFile(), 0, None, False
-        self.lock = threading.Lock()
+        self.lock, self.is_smaller = threading.Lock(), is_smaller
 
     def add(self, visits, problem):
         """Draws the packings of a slice; whether no more are kept."""
         for line in visits:
             if self.draws is None:
-                self.draws = Drawing(self.text, problem)
+                self.draws = Drawing(self.text, problem, self.is_smaller)
             rows = ["packing %d" % (self.many + 1), *self.draws.rows(numbers(line.split()[1:]))]
             with self.lock:
                 self.file.write("".join(row + "\n" for row in rows).encode("latin-1"))
@@ -59,18 +58,19 @@ class Found:
                 if left < 0 or line == b"packing %d\n" % (taken + 1):
                     break
                 out.write(line)
-        out.write(b"%s %d\n" % (b"packings" if self.is_whole and taken == many else b"first", taken))
+        whole = GROUP.encode() if self.is_smaller else b"packings"
+        out.write(b"%s %d\n" % (whole if self.is_whole and taken == many else b"first", taken))
         out.seek(0)
         return out
 
-    def classify(self, runs, begun):
-        """Keeps one packing of each class."""
-        with self.listed() as solved, one_of_each(runs, self.text, solved, begun) as each:
-            text = each.read()
-        at = text.rindex(b"packings ")
+    def classify(self, launch):
+        """Keeps one packing of each class, as the program tells them apart: some of those found may be alike."""
+        file, line = tempfile.TemporaryFile(), ""
+        for line in asked(["solve", "--up-to", GROUP], self.text, launch):
+            if not line.startswith(GROUP + " "):
+                file.write(line.encode("latin-1"))
         with self.lock:
-            self.file, self.many = tempfile.TemporaryFile(), int(text[at:].split()[1])
-            self.file.write(text[:at])
+            self.file, self.many = file, number(line.split()[1])
 
 
 class Search:
@@ -97,8 +97,8 @@ class Search:
         """Begins a search in the place of the one before."""
         with self.turn:
             self.stop()
-            self.kind, self.sliced, self.most, self.is_over = kind, None, FIRST, False
-            self.found = Found(problem_text(text), KINDS[kind])
+            self.kind, self.sliced, self.smaller, self.most, self.is_over = kind, None, None, FIRST, False
+            self.found = Found(problem_text(text), KINDS[kind], kind == "classes")
             self.tell(state="running", kind=kind, found=0, of=None, steps=0, seconds=0, share=None, left=None, said="", lines=[])
             self.run()
 
@@ -142,7 +142,9 @@ class Search:
         """All slices up to the end, or what ends the search before."""
         try:
             if self.sliced is None:
-                sliced = Sliced("count", self.found.text, self.launch)
+                if self.kind == "classes":
+                    self.smaller = Smaller(GROUP, self.found.text, self.launch)
+                sliced = Sliced("cover", self.smaller.text, self.launch) if self.smaller else Sliced("count", self.found.text, self.launch)
                 sliced.begin()
                 self.sliced, self.estimate = sliced, Estimate(sliced.snapshot.problem)
             while not self.is_over:
@@ -189,13 +191,22 @@ class Search:
             stop("the sums are no whole run's: %d steps don't fit the visits and levels" % sums.steps)
         if not is_end and self.kind != "first":
             said = "%d packings are kept, and no more; Count tells how many there are." % KEPT
-        if self.kind == "classes" and is_end and self.found.many:
-            many = self.found.many
-            self.tell(said="Looking which packings are alike ...")
-            self.found.classify(self.runs, self.begun)
-            self.tell(found=self.found.many, of=many)
+        lines = sums.lines("count", self.sliced.snapshot.options) if is_end else []
+        if self.smaller and is_end:
+            lines = self.classes(sums)
         self.found.is_whole = is_end and (self.kind != "first" or not self.found.many)
-        self.tell(state="done", said=said, lines=sums.lines("count", self.sliced.snapshot.options) if is_end else [], left=None)
+        self.tell(state="done", said=said, lines=lines, left=None)
+
+    def classes(self, sums):
+        """The lines of `count --up-to`, once one packing of each class is kept. If visits may be alike, the program tells both."""
+        meaning = self.smaller.meaning
+        lines = meaning.lines(sums, self.sliced.snapshot.options)
+        if not meaning.are_classes:
+            self.tell(said="Looking which packings are alike ...")
+            lines = [line.rstrip("\n") for line in asked(["count", "--up-to", GROUP], self.found.text, self.launch)]
+            self.found.classify(self.launch)
+        self.tell(found=self.found.many, of=number(lines[0].split()[1]))
+        return lines
 
     def forget(self):
         """Ends the search, and lets go of what it found."""

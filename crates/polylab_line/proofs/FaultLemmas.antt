@@ -13,6 +13,7 @@ module _ (May Allowed : PoolFault → Type 0) where
   some_faults : (job : Job) → (takes_commands job ≡ false → (f : PoolFault) → May f → Allowed f) → (f : PoolFault)
       → pool_faults job May f → pool_faults job Allowed f
   some_faults (jobs.Cover cover_jobs.List) m f h = m refl f h
+  some_faults (jobs.Cover cover_jobs.Count) m f h = m refl f h
   some_faults (jobs.Cover (cover_jobs.First n)) m f h = h
   some_faults (jobs.Cover cover_jobs.Debug) m f h = h
   some_faults (jobs.Puzzle puzzle_jobs.Solve) m f h = m refl f h
@@ -20,6 +21,9 @@ module _ (May Allowed : PoolFault → Type 0) where
   some_faults (jobs.Puzzle puzzle_jobs.Count) m f h = m refl f h
   some_faults (jobs.Puzzle puzzle_jobs.Classes) m f h = m refl f h
   some_faults (jobs.Puzzle puzzle_jobs.Options) m f h = h
+  some_faults (jobs.Puzzle (puzzle_jobs.SolveUpTo group)) m f h = m refl f h
+  some_faults (jobs.Puzzle (puzzle_jobs.CountUpTo group)) m f h = m refl f h
+  some_faults (jobs.Puzzle (puzzle_jobs.OptionsUpTo group)) m f h = h
   some_faults (jobs.Puzzle puzzle_jobs.Debug) m f h = h
   some_faults (jobs.Resume steps list) m f h = h
 

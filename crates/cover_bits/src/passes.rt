@@ -65,7 +65,13 @@ fn keep(into: &mut [Part], kept: usize, part: Part) -> usize
 
 /// Writes the parts of the options of a set that have none of up to six items, and tells how many parts these are.
 #[inline(always)]
-fn without(into: &mut [Part], parts: &[Part], columns: &[u64], words: usize, items: &[u32]) -> usize
+fn without_six(
+    into: &mut [Part],
+    parts: &[Part],
+    columns: &[u64],
+    words: usize,
+    items: &[u32],
+) -> usize
     requires placed { ArePlaced 0 words parts.now }
     requires room { length parts.now ≤ length into.old }
     requires small { words < 2 ^ 32 }
@@ -96,6 +102,30 @@ fn without(into: &mut [Part], parts: &[Part], columns: &[u64], words: usize, ite
         kept = keep(into, kept, Part { word, place });
     }
     kept
+}
+
+/// The same, with a pass for each number of items: of a number that it knows the compiler reads each column once. Most options of a problem
+/// have the same number.
+#[inline(always)]
+fn without(into: &mut [Part], parts: &[Part], columns: &[u64], words: usize, items: &[u32]) -> usize
+    requires placed { ArePlaced 0 words parts.now }
+    requires room { length parts.now ≤ length into.old }
+    requires small { words < 2 ^ 32 }
+    requires some { 0 < length items.now }
+    requires most { length items.now ≤ 6 }
+    requires columns { All (HasColumn words columns.now) items.now }
+    ensures long { length into.new ≡ length into.old }
+    ensures few { result ≤ length parts.now }
+    ensures written { IsWithout words columns.now items.now parts.now (take result into.new) }
+{
+    match items.len() {
+        1 => without_six(into, parts, columns, words, items),
+        2 => without_six(into, parts, columns, words, items),
+        3 => without_six(into, parts, columns, words, items),
+        4 => without_six(into, parts, columns, words, items),
+        5 => without_six(into, parts, columns, words, items),
+        _ => without_six(into, parts, columns, words, items),
+    }
 }
 
 /// Writes the set at a place: what the one at `base`, which stands before it, has without the options of these items.

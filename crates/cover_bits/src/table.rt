@@ -3,7 +3,8 @@ ghost use Rattle.std.specs.Prelude.{◌≡◌, ◌<◌, ◌≤◌, ◌+◌, ◌-
 ghost use Rattle.std.specs.List.{position_or_len, before_first};
 ghost use Rattle.shared_words.specs.Lists as members;
 ghost use Rattle.shared_words.specs.Lists.{are_distinct};
-ghost use Rattle.cover_problem.specs.Covering.{list_of};
+ghost use Rattle.cover_problem.specs.Problem.{IsProblem};
+ghost use Rattle.cover_problem.specs.Covering.{active, choice, list_of};
 ghost use Rattle.cover_bits.specs.Parts.{words_for, in_row};
 ghost use Rattle.cover_bits.specs.Bits.{AreLeftBut, IsListOf};
 
@@ -217,6 +218,78 @@ impl BitTable {
     }
 }
 
+// How an item is chosen.
+impl BitTable {
+    /// The first of the active items with the fewest of the options left.
+    #[inline(always)]
+    fn shortest(&self, left: &[Part], gone: &[u32]) -> u32
+        requires left { AreLeftBut self.now.problem self.now.covered
+            (words_for (length self.now.problem.options)) left.now gone.now }
+        requires problem { IsProblem self.now.problem }
+        requires open { 0 < length (active self.now.problem self.now.covered) }
+        ensures { result ≡ choice self.now.problem self.now.covered }
+    {
+        // The walk of every table. But `len` would look up for each item which set its list is in, and `next_item` where it stands.
+        let mut rest = whole(&self.active);
+        let mut best = after(take_next(&mut rest, &self.active)).unwrap();
+        let mut least = self.len_in(left, gone, best);
+        let mut item = best;
+        // None has fewer than no option, and of those with as few the first is asked for.
+        while least > 0 {
+            let Some(next) = after(take_next(&mut rest, &self.active)) else {
+                return best;
+            };
+            let len = self.len_in(left, gone, next);
+            if len < least {
+                best = next;
+                least = len;
+            }
+            item = next;
+        }
+        best
+    }
+
+    /// The same where options are gone.
+    #[cold]
+    #[inline(never)]
+    fn shortest_but(&self, left: &[Part], gone: &[u32]) -> u32
+        requires left { AreLeftBut self.now.problem self.now.covered
+            (words_for (length self.now.problem.options)) left.now gone.now }
+        requires problem { IsProblem self.now.problem }
+        requires open { 0 < length (active self.now.problem self.now.covered) }
+        ensures { result ≡ choice self.now.problem self.now.covered }
+    {
+        self.shortest(left, gone)
+    }
+
+    /// The same, with a loop for each small number of parts: of a number that it knows the compiler keeps the parts in registers, and
+    /// counts without a loop. A few levels down a set of most problems has so few.
+    #[inline(always)]
+    fn shortest_of(&self, left: &[Part], gone: &[u32]) -> u32
+        requires left { AreLeftBut self.now.problem self.now.covered
+            (words_for (length self.now.problem.options)) left.now gone.now }
+        requires problem { IsProblem self.now.problem }
+        requires open { 0 < length (active self.now.problem self.now.covered) }
+        ensures { result ≡ choice self.now.problem self.now.covered }
+    {
+        match left.len() {
+            1 => self.shortest(left, gone),
+            2 => self.shortest(left, gone),
+            3 => self.shortest(left, gone),
+            4 => self.shortest(left, gone),
+            5 => self.shortest(left, gone),
+            6 => self.shortest(left, gone),
+            7 => self.shortest(left, gone),
+            8 => self.shortest(left, gone),
+            9 => self.shortest(left, gone),
+            10 => self.shortest(left, gone),
+            11 => self.shortest(left, gone),
+            12 => self.shortest(left, gone),
+            _ => self.shortest(left, gone),
+        }
+    }
+}
+
 // How items are covered.
 impl BitTable {
     /// Covers an item, and leaves its options in the last set.
@@ -315,25 +388,11 @@ impl Table for BitTable {
     // By itself: within the walk of a search its loops lack registers, which costs a tenth of the time.
     #[inline(never)]
     fn choose(&self) -> u32 {
-        // The walk of every table. But `len` would look up for each item which set its list is in, and `next_item` where it stands.
         let (left, gone) = self.left();
-        let mut rest = whole(&self.active);
-        let mut best = after(take_next(&mut rest, &self.active)).unwrap();
-        let mut least = self.len_in(left, gone, best);
-        let mut item = best;
-        // None has fewer than no option, and of those with as few the first is asked for.
-        while least > 0 {
-            let Some(next) = after(take_next(&mut rest, &self.active)) else {
-                return best;
-            };
-            let len = self.len_in(left, gone, next);
-            if len < least {
-                best = next;
-                least = len;
-            }
-            item = next;
+        if !gone.is_empty() {
+            return self.shortest_but(left, gone);
         }
-        best
+        self.shortest_of(left, gone)
     }
 
     // By itself, as `choose` is.

@@ -4,7 +4,7 @@ use Rattle.cover_problem.proofs.ActiveLemmas.{active_in}
 use Rattle.cover_problem.proofs.ChoiceLemmas.{some_active, first_is, begins, next_is, takes, keeps, falls, walks_end, zero_ends}
 use Rattle.cover_bits.proofs.WalkLemmas.{IsAhead}
 use Rattle.cover_bits.proofs.ChooseLemmas.{first_met, next_met}
-use Rattle.cover_bits.proofs.table.BitTableTable.choose.Goals as goal
+use Rattle.cover_bits.proofs.table.BitTable.shortest.Goals as goal
 
 pub unwrap-best-requires : goal.unwrap-best-requires
 unwrap-best-requires c =
@@ -19,7 +19,7 @@ len_in-least-requires c =
     (record { first = c.take_next.ensures.first; left = c.take_next.ensures.left; none = c.take_next.ensures.none }) c.after.ensures
     c.deref.result.now c.deref.ensures.value c.whole-rest.ensures.all in
     let f = first_is _ _ _ _ m.is c.unwrap-best.ensures in
-    record { left = c.left.ensures; some = f.1; within = omega (arith, f.2, c.requires.problem.within); uncovered = (active_in _ _ _ f.0).0 }
+    record { left = c.requires.left; some = f.1; within = omega (arith, f.2, c.requires.problem.within); uncovered = (active_in _ _ _ f.0).0 }
 
 pub loop-least-init : goal.loop-least-init
 loop-least-init c =
@@ -36,7 +36,7 @@ len_in-len-requires c =
     let m = next_met c.self.view_is c.self.invariant c.deref-in-loop-least.result.now c.deref-in-loop-least.ensures.value c.loop-least.rest c.take_next-in-loop-least.new.rest
     c.take_next-in-loop-least.result c.after-in-loop-least.result (record { first = c.take_next-in-loop-least.ensures.first; left = c.take_next-in-loop-least.ensures.left; none = c.take_next-in-loop-least.ensures.none }) c.after-in-loop-least.ensures c.loop-least.item c.loop-least.invariant.2 in
     let n = next_is _ _ _ _ _ _ _ c.loop-least.invariant.0 m.is c.in-Some.is in
-    record { left = c.left.ensures; some = n.1; within = omega (arith, n.2, c.requires.problem.within); uncovered = (active_in _ _ _ n.0).0 }
+    record { left = c.requires.left; some = n.1; within = omega (arith, n.2, c.requires.problem.within); uncovered = (active_in _ _ _ n.0).0 }
 
 pub loop-least-smaller-then-len-least : goal.loop-least-smaller-then-len-least
 loop-least-smaller-then-len-least c =

@@ -1,7 +1,7 @@
 use Rattle.std.proofs.Common.{◌<◌, ◌-◌, length}
 use Rattle.cover_problem.proofs.ChoiceLemmas.{Walks}
 use Rattle.cover_bits.proofs.WalkLemmas.{IsAhead}
-use Rattle.cover_bits.proofs.table.BitTableTable.choose.Given as goal
+use Rattle.cover_bits.proofs.table.BitTable.shortest.Given as goal
 
 abbrev pub invariant-loop-least : goal.invariant-loop-least
 invariant-loop-least l =

@@ -2,7 +2,7 @@ use Rattle.std.proofs.Common.{take, take_all, arith, ◌∙◌}
 use Rattle.cover_bits.specs.declared.sets.Part.{Part}
 use Rattle.cover_bits.proofs.PartLemmas.{placed_at}
 use Rattle.cover_bits.proofs.PassLemmas.{six_words, pass_more, pass_done}
-use Rattle.cover_bits.proofs.passes.without.Goals as goal
+use Rattle.cover_bits.proofs.passes.without_six.Goals as goal
 
 pub offset_bounds-first-place : goal.offset_bounds-first-place
 offset_bounds-first-place c =

@@ -1,6 +1,6 @@
 use Rattle.std.proofs.Common.{◌≡◌, ◌≤◌, take, length}
 use Rattle.cover_bits.proofs.PassLemmas.{six_words, without_words}
-use Rattle.cover_bits.proofs.passes.without.Given as goal
+use Rattle.cover_bits.proofs.passes.without_six.Given as goal
 
 abbrev pub invariant-loop-part : goal.invariant-loop-part
 invariant-loop-part l = record {

@@ -13,7 +13,7 @@ use Rattle.std.proofs.lemmas.Option.{slice_get-get_or, slice_get_past}
 use Rattle.poly_cells.specs.Sets.{IsIn}
 use Rattle.poly_cells.proofs.MemberLemmas.{all_pass, passes}
 use Rattle.poly_cells.proofs.SetLemmas.{in_at}
-use Rattle.poly_distinct.specs.Rule.{TallyValue, fewer, first_best, leaves_out, less_part, more, none_better}
+use Rattle.poly_distinct.specs.Rule.{TallyValue, better_by, fewer, first_best, leaves_out, less_part, more, none_better}
 
 -- ---- what is found
 
@@ -65,11 +65,15 @@ copied_is xs b (Some x) h =
 
 -- ---- orders
 
-pub fewer_ranks : IsStrictWeakOrder fewer
+fewer_ranks : IsStrictWeakOrder fewer
 fewer_ranks = IsStrictWeakOrder-by_number (λ (a : TallyValue). a.kept)
 
-pub more_ranks : IsStrictWeakOrder more
+more_ranks : IsStrictWeakOrder more
 more_ranks = IsStrictWeakOrder-flip fewer fewer_ranks
+
+pub better_ranks : (most : Bool) → IsStrictWeakOrder (better_by most)
+better_ranks true = more_ranks
+better_ranks false = fewer_ranks
 
 -- ---- the least part
 

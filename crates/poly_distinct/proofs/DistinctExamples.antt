@@ -10,6 +10,7 @@ use Rattle.poly_place.specs.Placements.{orientations, placements}
 use Rattle.poly_place.specs.Packings.{every_choice, leavings, choice_with, a_piece, a_cell}
 use Rattle.poly_place.specs.ClassCount.{image_in}
 use Rattle.poly_place.specs.Forms.{carrier}
+use Rattle.poly_distinct.specs.Form.{with_noted}
 use Rattle.poly_distinct.specs.Moves.{kept_at}
 use Rattle.poly_distinct.specs.Distinct.{image_of, allowed, choices_left, numbers_left, whole_path, images_counted, are_mirrors}
 
@@ -118,3 +119,10 @@ not_itself = refl
 may_be_reflected : are_mirrors (record alone { mirrored = 65 ∷ [] }) (λ name. name) ≡ true
 unfolding are_mirrors turned normal in_order matrix is_rotation
 may_be_reflected = refl
+
+-- after 2 0 2 1: what is noted keeps its place, and what isn't is noted
+noted_again : with_noted (0 ∷ 4 ∷ 1 ∷ 0 ∷ []) 2 5 ≡ 0 ∷ 4 ∷ 1 ∷ 0 ∷ []
+noted_again = refl
+
+noted_first : with_noted (0 ∷ 4 ∷ 1 ∷ 0 ∷ []) 3 5 ≡ 0 ∷ 4 ∷ 1 ∷ 5 ∷ []
+noted_first = refl

@@ -29,7 +29,7 @@ use Rattle.poly_place.proofs.FormLemmas.{PartAlike}
 use Rattle.poly_place.proofs.CarryLemmas.{neutral_kept, neutral_stays}
 use Rattle.poly_distinct.specs.Distinct.{image_of, images_by, IsAnchor, AreAllowed, IsPath, is_least, cells_at}
 use Rattle.poly_distinct.specs.Free.{have_own_cells, carrier_count}
-use Rattle.poly_distinct.proofs.ImagePackingLemmas.{in_from_among, among_from_in, in_image, from_image, comes_from, stays}
+use Rattle.poly_distinct.proofs.ImagePackingLemmas.{in_from_among, among_from_in, in_image, from_image, comes_from}
 use Rattle.poly_distinct.proofs.MovedCoverLemmas.{inside_of, moved_path}
 use Rattle.poly_distinct.proofs.LaidLemmas.{AreApart, LaysImages, one_part, part_some, same_part_of}
 use Rattle.poly_distinct.proofs.RestrictLemmas.{AreSame, in_has}

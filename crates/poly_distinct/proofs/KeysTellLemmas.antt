@@ -1,9 +1,8 @@
 -- The paths that are like none before them, by their least forms.
-use Rattle.std.proofs.Common.{◌≡◌, ℕ, Bool, List, [], ◌∷◌, inl, inr, refl, sym, ap, subst, ◌∙◌}
+use Rattle.std.proofs.Common.{◌≡◌, ℕ, Bool, List, [], ◌∷◌, inl, inr, refl, sym, ap, ◌∙◌}
 use Rattle.std.specs.Cmp.{Equal-is, both_ways as same_tests}
 use Rattle.std.specs.Ordering.{is_eq}
 use Rattle.std.proofs.lemmas.Cmp.{tied_itself}
-use Rattle.poly_cells.specs.Coordinates.{Coordinates}
 use Rattle.poly_cells.proofs.MemberLemmas.{same_function}
 use Rattle.poly_texts.specs.Puzzle.{PuzzleValue, IsPuzzle}
 use Rattle.poly_place.specs.declared.alike.Group.{Group}
@@ -41,8 +40,3 @@ module _ (p : PuzzleValue) (z : IsPuzzle p) (group : Group) (gs : List (List ℕ
   pub by_keys : (paths : List (List ℕ)) → new_by_keys p gs paths ≡ distinct_paths p group paths
   unfolding distinct_paths
   by_keys paths = ap (λ (like : List ℕ → List ℕ → Bool). new_from like [] paths) (same_function by_key (are_like_paths p group) same_with)
-
--- carriers of a region are those of one that equals it
-pub moved_keys : (group : Group) (vs ms ws ns : List Coordinates) (gs : List (List ℕ)) → vs ≡ ws → ms ≡ ns → AreCarriers group vs ms gs → AreCarriers group ws ns gs
-moved_keys group vs ms ws ns gs e f all =
-    subst (λ (us : List Coordinates). AreCarriers group us ns gs) e (subst (λ (us : List Coordinates). AreCarriers group vs us gs) f all)

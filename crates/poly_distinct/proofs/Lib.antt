@@ -30,3 +30,7 @@ pub mod UpToLemmas
 pub mod CountsLemmas
 pub mod TallyLemmas
 pub mod BestLemmas
+pub mod NotedLemmas
+pub mod LowerLemmas
+pub mod FirstImageLemmas
+pub mod ToldFormLemmas

@@ -90,7 +90,7 @@ module _ (vs : List Coordinates) (s : IsShape vs) where
   at_carrier : (n : ℕ) (v : Coordinates) → IsIn v vs → slice_index (carrier vs n) (place v) ≡ place (image_in vs n v)
   at_carrier n v i = ap (λ (g : List ℕ). slice_index g (place v)) (carrier_is n) ∙ at_place (λ w. place (image_in vs n w)) v i
 
-  carrier_long : (n : ℕ) → length (carrier vs n) ≡ length vs
+  pub carrier_long : (n : ℕ) → length (carrier vs n) ≡ length vs
   carrier_long n = ap (λ (g : List ℕ). length g) (carrier_is n) ∙ length-map vs (λ v. place (image_in vs n v))
 
   -- the same place is that of the same cell

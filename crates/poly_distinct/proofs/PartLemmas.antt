@@ -1,5 +1,5 @@
 -- The part at the anchor: what is so of it is so of the search up to symmetry.
-use Rattle.std.proofs.Common.{◌≡◌, ℕ, ◌+◌, ◌-◌, ◌<◌, ◌≤◌, zero, suc, not, Option, Result, Ok, Err, IfOk, None, Some, List, [], ◌∷◌, ◌++◌, map, filter, take, length, get_or, inl, inr, refl, sym, ap, ap₂, subst, ◌∙◌, arith}
+use Rattle.std.proofs.Common.{◌≡◌, ℕ, ◌+◌, ◌-◌, ◌<◌, ◌≤◌, zero, suc, not, Option, Result, Ok, Err, IfOk, None, Some, List, [], ◌∷◌, ◌++◌, map, filter, cond, Bool, true, false, take, length, get_or, inl, inr, refl, sym, ap, ap₂, subst, ◌∙◌, arith}
 use Rattle.std.specs.Prelude.{option_map}
 use Rattle.std.proofs.lemmas.List.{length-map, map-append, get_or-map, get_or_default}
 use Rattle.std.proofs.lemmas.List.Elements.{filter-append}
@@ -18,10 +18,11 @@ use Rattle.cover_problem.specs.Problem.{ProblemValue, option_at}
 use Rattle.cover_problem.specs.ExactCover.{IsExactCover}
 use Rattle.poly_texts.specs.Puzzle.{PuzzleValue, IsPuzzle}
 use Rattle.poly_place.specs.declared.alike.Group.{Group}
+use Rattle.poly_place.specs.declared.alike.Group.TheVariants.{Rotations}
 use Rattle.poly_place.specs.Packings.{ChoiceValue, Thing, a_piece, a_cell, a_node, packing_problem}
 use Rattle.poly_place.specs.Chosen.{PackingValue, packing_value, chosen_by}
 use Rattle.poly_place.specs.Listing.{AreExactCovers}
-use Rattle.poly_distinct.specs.Rule.{anchor_of, group_at, is_kept_at, symmetries_at}
+use Rattle.poly_distinct.specs.Rule.{anchor_of, group_at, may_reflect, is_kept_at, symmetries_at}
 use Rattle.poly_distinct.specs.Fewer.{AreNumbersTo, with_options}
 use Rattle.poly_distinct.specs.Distinct.{IsAnchor, IsPartOf, IsPath, cells_at, images_counted, images_by, distinct_paths, whole_path, numbers_left}
 use Rattle.poly_distinct.specs.UpTo.{PartValue, IsPart, moves_of, symmetries_in, first_cells, stands_for_in, counted_in, counts_by, each_in, part_with, part_of, part_problem, part_numbers, whole_paths_of, smaller_at, smaller, whole_paths_at, whole_paths, new_paths, stood_for_at, stood_for, each_stands_at, each_stands}
@@ -107,6 +108,9 @@ module _ (p : PuzzleValue) (group : Group) where
   module _ (part : Option PartValue) (q : PartValue) (is : part ≡ part_of p group) (some : part ≡ Some q) where
     anchored : (t : Thing) × (anchor_of p group ≡ Some t) × (q ≡ part_with p group t)
     anchored = some_at (anchor_of p group) q (sym some ∙ is)
+
+    pub part_is_of : q.puzzle ≡ p
+    part_is_of = let t = anchored in ap (λ (r : PartValue). r.puzzle) t.2
 
     pub problem_part : part_problem q ≡ smaller p group
     unfolding smaller
@@ -261,10 +265,7 @@ module _ (a : PartValue) (moves : MovesValue) (numbers : List ℕ) (problem : Pr
 
 -- ---- making a part
 
-module _ (p ex : PuzzleValue) (group g : Group) (t : Thing) (m : MovesValue) (made : m ≡ moves_of p g) (acting : g ≡ group_at ex group t) (same : ex ≡ p) where
-  pub moves_made : m ≡ moves_of p (group_at p group t)
-  moves_made = made ∙ ap (moves_of p) (acting ∙ ap (λ (q : PuzzleValue). group_at q group t) same)
-
+module _ (p : PuzzleValue) (group : Group) (t : Thing) (m : MovesValue) (moves_made : m ≡ moves_of p (group_at p group t)) where
   pub part_made : IsPuzzle p → IsAnchor p t → (numbers ks : List ℕ) (whole problem : ProblemValue) → numbers ≡ numbers_left p t (kept_at p m.group t) → ks ≡ numbers → whole ≡ packing_problem p
       → problem ≡ with_options whole ks → IsPart (part_with p group t) m numbers problem
   part_made z anchor numbers ks whole problem is kept e made_of =
@@ -276,3 +277,12 @@ module _ (p ex : PuzzleValue) (group g : Group) (t : Thing) (m : MovesValue) (ma
         numbers_are = ns;
         problem_is = made_of ∙ ap₂ (λ (q : ProblemValue) (os : List ℕ). with_options q os) e (kept ∙ ns) ∙ sym (smaller_is p z t (symmetries_at p group t));
       }
+
+pub moves_chosen : (p ex : PuzzleValue) (group : Group) (t : Thing) (m all turns : MovesValue) → ex ≡ p → all ≡ moves_of p group → turns ≡ moves_of p Rotations
+    → m ≡ cond (may_reflect ex t) all turns → m ≡ moves_of p (group_at p group t)
+moves_chosen p ex group t m all turns e f g is =
+    is ∙ ap₂ (λ (a b : MovesValue). cond (may_reflect ex t) a b) f g ∙ either (may_reflect ex t) ∙ ap (λ (q : PuzzleValue). moves_of p (group_at q group t)) e
+  where
+    either : (b : Bool) → cond b (moves_of p group) (moves_of p Rotations) ≡ moves_of p (cond b group Rotations)
+    either true = refl
+    either false = refl

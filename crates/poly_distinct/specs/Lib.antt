@@ -1,6 +1,7 @@
 pub mod Distinct
 pub mod Fewer
 pub mod Free
+pub mod Form
 pub mod Moves
 pub mod Exchange
 pub mod Rule

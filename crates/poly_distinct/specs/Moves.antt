@@ -3,9 +3,10 @@
 --
 -- Example: of the row 0 0 0, 1 0 0, 2 0 0 half a turn brings the places 0 1 2 to 2 1 0, and leaves the cell 1 0 0 where it is
 -- (proofs/DistinctExamples.antt).
-use Rattle.std.specs.Prelude.{◌≡◌, ℕ, ◌<◌, ◌==◌, Bool, true, not, ◌&&◌, List, map, filter, length, slice_index, Option, None, Some}
+use Rattle.std.specs.Prelude.{◌≡◌, ℕ, ◌<◌, ◌≤◌, ◌==◌, Bool, true, not, ◌&&◌, List, map, filter, length, slice_index, Option, None, Some}
 use Rattle.std.specs.List.{list_all, range_with_len}
-use Rattle.std.specs.Ordering.{is_lt, nat_cmp}
+use Rattle.std.specs.Ordering.{is_lt, nat_cmp, ordering_then}
+use Rattle.std.specs.declared.cmp.Ordering.{Ordering}
 use Rattle.poly_cells.specs.Coordinates.{Coordinates}
 use Rattle.poly_cells.specs.Sets.{IsIn, in_order}
 use Rattle.poly_cells.specs.CellTests.{is_same}
@@ -13,7 +14,7 @@ use Rattle.poly_texts.specs.Puzzle.{PuzzleValue, IsPuzzle}
 use Rattle.poly_place.specs.declared.alike.Group.{Group}
 use Rattle.poly_place.specs.Packings.{Thing, a_piece, a_cell, a_node, place_of}
 use Rattle.poly_place.specs.ClassCount.{image_in}
-use Rattle.poly_place.specs.Compiled.{ArePlaces}
+use Rattle.poly_place.specs.Compiled.{ArePlacesOf}
 use Rattle.poly_place.specs.Forms.{AreBelow, AreCarriers, carried, forms_cmp}
 use Rattle.poly_distinct.specs.declared.anchor.Anchor.{Anchor}
 use Rattle.poly_distinct.specs.declared.anchor.Anchor.TheVariants.{Piece, Cell}
@@ -48,7 +49,7 @@ pub record MovesValue : Type 0 where
 -- the table has the place of each cell of the region, and the carriers are those of the symmetries
 pub record AreMoves (p : PuzzleValue) (group : Group) (places : List ℕ) (carriers : List (List ℕ)) : Type 0 where
   pub sound : IsPuzzle p
-  pub table : ArePlaces p places
+  pub table : ArePlacesOf p.region places
   pub carriers_are : AreCarriers group p.region p.maybe_cells carriers
 
 -- the place that a move has to leave where it is
@@ -65,6 +66,15 @@ leaves_place (Some place) carrier = slice_index carrier place == place
 -- whether a carrier brings these places, put in order, to lesser ones
 abbrev pub lowers : List ℕ → List ℕ → Bool
 lowers places carrier = is_lt (forms_cmp (in_order nat_cmp (carried carrier places)) places)
+
+-- the least of these places
+pub record IsLeastOf (least : ℕ) (places : List ℕ) : Type 0 where
+  pub member : IsIn least places
+  pub below : (k : ℕ) → IsIn k places → least ≤ k
+
+-- an order of lists that their first places tell, unless these are equal
+abbrev pub BeginsWith : Ordering → Ordering → Type 0
+BeginsWith first whole = (rest : Ordering) × (whole ≡ ordering_then first rest)
 
 -- whether no carrier does that which leaves the place where it is
 abbrev pub is_least_by : Option ℕ → List ℕ → List (List ℕ) → Bool

@@ -96,6 +96,10 @@ fewer a b = nat_lt a.kept b.kept
 abbrev pub more : TallyValue → TallyValue → Bool
 more a b = nat_lt b.kept a.kept
 
+-- the second of these tests, or the first
+abbrev pub better_by : Bool → TallyValue → TallyValue → Bool
+better_by most = cond most more fewer
+
 -- whether none of the others is better
 abbrev pub none_better : (TallyValue → TallyValue → Bool) → List TallyValue → TallyValue → Bool
 none_better better others a = list_all (λ b. not (better b a)) others

@@ -5,6 +5,7 @@ mod anchor;
 mod counts;
 mod exchange;
 mod fewer;
+mod form;
 mod free;
 pub mod free_laws;
 mod kind;

@@ -1,22 +1,24 @@
 //! The symmetries of a puzzle's region, as moves of the places of its cells.
-ghost use Rattle.std.specs.Prelude.{◌≡◌, ◌<◌, ℕ, Option, Some, List, length, map, ◌∷◌, []};
+ghost use Rattle.std.specs.Prelude.{◌≡◌, ◌<◌, ℕ, Option, Some, List, length, map, ◌∷◌, [], ◌++◌, OnOk};
 ghost use Rattle.std.specs.Ordering.{nat_cmp};
 ghost use Rattle.poly_cells.specs.Coordinates.{Coordinates};
 ghost use Rattle.poly_cells.specs.Sets.{IsIn, in_order};
 ghost use Rattle.shared_words.specs.Answers.{Returns, ReturnsItems};
 ghost use Rattle.poly_texts.specs.Lists.{lists_of};
 ghost use Rattle.poly_place.specs.Packings.{place_of};
-ghost use Rattle.poly_place.specs.Forms.{carried, forms_cmp, AreBelow};
+ghost use Rattle.poly_place.specs.Forms.{carried, forms_cmp, AreBelow, AreCarriers};
 ghost use Rattle.poly_place.specs.Answers.{AddsLists, ReturnsLists};
+ghost use Rattle.poly_place.specs.Compiled.{ArePlacesOf};
 ghost use Rattle.poly_distinct.specs.Distinct.{images_by, is_least};
 ghost use Rattle.poly_distinct.specs.Moves.{thing_of, kept_at, fixed_place, images_at, is_least_by, leaves_place, lowers, LiesInside};
-ghost use Rattle.poly_distinct.specs.Moves.{HavePlaces};
+ghost use Rattle.poly_distinct.specs.Moves.{BeginsWith, HavePlaces, IsLeastOf};
 
 use crate::anchor::Anchor;
 use poly_cells::Cell;
-use poly_place::{Compiled, Group, bit_index, carriers, cell_places};
+use poly_place::{Compiled, Group, bit_index, carriers, region_places};
 use poly_texts::Puzzle;
 use std::alloc::{AllocError, Global};
+use std::cmp::Ordering;
 use std::marker::Model;
 
 /// The symmetries of a group that keep a puzzle's region and its optional cells: for each where it brings the places of the region's cells.
@@ -46,7 +48,7 @@ impl<'p> Moves<'p> {
     {
         let puzzle = compiled.puzzle();
         puzzle.is_sound();
-        let places = cell_places(alloc, puzzle)?;
+        let places = region_places(alloc, puzzle.region().cells())?;
         let carriers = carriers(alloc, puzzle.region(), puzzle.maybe_cells(), group)?;
         Ok(Moves {
             puzzle,
@@ -108,6 +110,27 @@ impl<'p> Moves<'p> {
         Ok(places)
     }
 
+    /// The group.
+    pub fn group(&self) -> Group
+        ensures { result ≡ self.now.group }
+    {
+        self.group
+    }
+
+    /// For each of the region's cells one more than how many of its cells come before it, at the place of the cell's bit, and 0 elsewhere.
+    pub fn places(&self) -> &[u32]
+        ensures { ArePlacesOf self.now.puzzle.region result.now }
+    {
+        self.places.as_slice()
+    }
+
+    /// For each of them the places to which it brings the region's cells.
+    pub fn carriers(&self) -> &[Vec<usize>]
+        ensures { AreCarriers self.now.group self.now.puzzle.region self.now.puzzle.maybe_cells (lists_of result.now) }
+    {
+        self.carriers.as_slice()
+    }
+
     /// The puzzle.
     pub fn puzzle(&self) -> &'p Puzzle
         ensures { result.now ≡ self.now.puzzle }
@@ -145,8 +168,10 @@ fn is_least(
     requires { HavePlaces fixed places.now (lists_of carriers.now) }
     ensures { Returns result (is_least_by fixed places.now (lists_of carriers.now)) }
 {
+    // One list for all: most carriers need none.
+    let mut there = Vec::new(alloc);
     for carrier in carriers {
-        if leaves(carrier.as_slice(), fixed) && lowers(alloc, carrier.as_slice(), places)? {
+        if leaves(carrier.as_slice(), fixed) && lowers(&mut there, carrier.as_slice(), places)? {
             return Ok(false);
         }
     }
@@ -164,13 +189,54 @@ fn leaves(carrier: &[usize], fixed: Option<usize>) -> bool
     }
 }
 
-/// Whether a carrier brings the places, put in order, to lesser ones.
-fn lowers(alloc: Global, carrier: &[usize], places: &[usize]) -> Result<bool, AllocError>
+/// Whether a carrier brings the places, put in order, to lesser ones. Mostly the first ones tell.
+fn lowers(there: &mut Vec<usize>, carrier: &[usize], places: &[usize]) -> Result<bool, AllocError>
     requires { AreBelow (length carrier.now) places.now }
     ensures { Returns result (lowers places.now carrier.now) }
 {
-    let mut there = carried(alloc, carrier, places)?;
-    put_in_order(&mut there);
+    match first_cmp(carrier, places) {
+        Ordering::Less => Ok(true),
+        Ordering::Greater => Ok(false),
+        Ordering::Equal => lowers_list(there, carrier, places),
+    }
+}
+
+/// How the first of the places to which a carrier brings these, put in order, compares to the first of these.
+fn first_cmp(carrier: &[usize], places: &[usize]) -> Ordering
+    requires { AreBelow (length carrier.now) places.now }
+    ensures { BeginsWith result (forms_cmp (in_order nat_cmp (carried carrier.now places.now)) places.now) }
+{
+    match places.first() {
+        None => Ordering::Equal,
+        Some(first) => least_image(carrier, places, *first).cmp(first),
+    }
+}
+
+/// The least of the places to which a carrier brings these, of which `first` is one.
+fn least_image(carrier: &[usize], places: &[usize], first: usize) -> usize
+    requires first { IsIn first places.now }
+    requires below { AreBelow (length carrier.now) places.now }
+    ensures { IsLeastOf result (carried carrier.now places.now) }
+{
+    let mut least = carrier[first];
+    for place in places {
+        least = least.min(carrier[*place]);
+    }
+    least
+}
+
+/// The same by the whole list of places, which is made in `there`.
+fn lowers_list(
+    there: &mut Vec<usize>,
+    carrier: &[usize],
+    places: &[usize],
+) -> Result<bool, AllocError>
+    requires { AreBelow (length carrier.now) places.now }
+    ensures { Returns result (lowers places.now carrier.now) }
+{
+    there.clear();
+    carry(there, carrier, places)?;
+    put_in_order(there);
     Ok(there.as_slice().cmp(&places).is_lt())
 }
 
@@ -180,10 +246,19 @@ fn carried(alloc: Global, carrier: &[usize], places: &[usize]) -> Result<Vec<usi
     ensures { ReturnsItems result (carried carrier.now places.now) }
 {
     let mut there = Vec::with_capacity(alloc, places.len())?;
+    carry(&mut there, carrier, places)?;
+    Ok(there)
+}
+
+/// Adds where a carrier brings the places, in the same order.
+fn carry(there: &mut Vec<usize>, carrier: &[usize], places: &[usize]) -> Result<(), AllocError>
+    requires { AreBelow (length carrier.now) places.now }
+    ensures { OnOk result (there.new.items ≡ there.old.items ++ carried carrier.now places.now) }
+{
     for place in places {
         there.push(carrier[*place])?;
     }
-    Ok(there)
+    Ok(())
 }
 
 /// Puts places in order, each once.

@@ -11,14 +11,13 @@ ghost use Rattle.poly_distinct.specs.Distinct.{IsAnchor};
 ghost use Rattle.poly_distinct.specs.Fewer.{AreNumbersTo};
 ghost use Rattle.poly_distinct.specs.Moves.{thing_of};
 ghost use Rattle.poly_distinct.specs.Rule.{group_at};
-ghost use Rattle.poly_distinct.specs.UpTo.{part_with, part_problem, whole_paths_of, counted_in, stands_for_in, first_cells, counts_in};
+ghost use Rattle.poly_distinct.specs.UpTo.{part_with, moves_of, part_problem, whole_paths_of, counted_in, stands_for_in, first_cells, counts_in};
 ghost use Rattle.poly_distinct.specs.UpTo.{counts_by, each_in, one_number};
 
 use crate::anchor::Anchor;
-use crate::exchange::MirrorNames;
 use crate::fewer::with_options;
 use crate::moves::Moves;
-use crate::rule::{is_kept, may_reflect};
+use crate::rule::is_kept;
 use crate::smaller::{is_at, numbers_left};
 use cover_problem::{Lists, Problem};
 use poly_cells::Cell;
@@ -49,32 +48,20 @@ impl<'a, 'p> Model for AnchorPart<'a, 'p> {
     ghost invariant = { λ a. IsPart (part_with a.compiled.now a.group (thing_of a.anchor)) a.moves a.numbers.items a.problem };
 }
 
-/// The group whose symmetries may be used at an anchor.
-fn group_at(exchange: &MirrorNames<'_>, group: Group, anchor: &Anchor) -> Group
-    ensures { result ≡ group_at exchange.now group (thing_of anchor.now) }
-{
-    if may_reflect(exchange, anchor) {
-        group
-    } else {
-        Group::Rotations
-    }
-}
-
 impl<'a, 'p> AnchorPart<'a, 'p> {
-    /// Those of an anchor of the puzzle.
+    /// Those of an anchor of the puzzle, by the moves that may be used there.
     pub fn at(
         alloc: Global,
         compiled: &'a Compiled<'p>,
-        exchange: &MirrorNames<'_>,
+        moves: Moves<'p>,
         group: Group,
         anchor: &Anchor,
     ) -> Result<AnchorPart<'a, 'p>, AllocError>
-        requires exchange { exchange.now ≡ compiled.now }
+        requires moves { moves ≡ moves_of compiled.now (group_at compiled.now group (thing_of anchor.now)) }
         requires anchor { IsAnchor compiled.now (thing_of anchor.now) }
         ensures { Returns result (part_with compiled.now group (thing_of anchor.now)) }
     {
         let _sound = compiled.choices();
-        let moves = Moves::of(alloc, compiled, group_at(exchange, group, anchor))?;
         let numbers = numbers_left(alloc, compiled, &moves, anchor)?;
         let problem = with_options(alloc, compiled.problem(), numbers.as_slice())?;
         Ok(AnchorPart {
@@ -92,6 +79,13 @@ impl<'a, 'p> AnchorPart<'a, 'p> {
         ensures { thing_of result.now ≡ self.now.thing }
     {
         &self.anchor
+    }
+
+    /// The moves that may be used there.
+    pub fn moves(&self) -> &Moves<'p>
+        ensures { result.now.puzzle ≡ self.now.puzzle }
+    {
+        &self.moves
     }
 
     /// The problem.

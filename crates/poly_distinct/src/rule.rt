@@ -11,9 +11,9 @@ ghost use Rattle.poly_place.specs.Packings.{every_choice};
 ghost use Rattle.poly_distinct.specs.Distinct.{is_at};
 ghost use Rattle.poly_distinct.specs.Exchange.{has_mirrors};
 ghost use Rattle.poly_distinct.specs.Moves.{thing_of, kept_at};
-ghost use Rattle.poly_distinct.specs.Rule.{TallyValue, anchor_of, chosen_of, fewer, first_best, is_alone, is_below_all, is_kept_at};
+ghost use Rattle.poly_distinct.specs.Rule.{TallyValue, anchor_of, better_by, chosen_of, first_best, is_alone, is_below_all, is_kept_at};
 ghost use Rattle.poly_distinct.specs.Rule.{is_single};
-ghost use Rattle.poly_distinct.specs.Rule.{least_parts, leaves_out, less_part, may_reflect, more, single_pieces, tallies_of, tally_by};
+ghost use Rattle.poly_distinct.specs.Rule.{least_parts, leaves_out, less_part, may_reflect, single_pieces, tallies_of, tally_by};
 ghost use Rattle.poly_distinct.specs.Rule.{anchor_tally};
 ghost use Rattle.poly_distinct.specs.UpTo.{moves_of};
 
@@ -42,8 +42,27 @@ pub fn anchor_of(
     ensures { IfOk result
         (λ found. option_map thing_of found ≡ anchor_of compiled.now group) }
 {
-    let all = tallies(alloc, compiled, exchange, group)?;
-    let least = least_parts(alloc, all.as_slice())?;
+    let turns = Moves::of(alloc, compiled, Group::Rotations)?;
+    let all = Moves::of(alloc, compiled, group)?;
+    anchor_by(alloc, compiled, exchange, &all, &turns)
+}
+
+/// The same by the moves of the group, and by the rotations.
+pub fn anchor_by(
+    alloc: Global,
+    compiled: &Compiled<'_>,
+    exchange: &MirrorNames<'_>,
+    all: &Moves<'_>,
+    turns: &Moves<'_>,
+) -> Result<Option<Anchor>, AllocError>
+    requires exchange { exchange.now ≡ compiled.now }
+    requires all { all.now.puzzle ≡ compiled.now }
+    requires turns { turns.now ≡ moves_of compiled.now Rotations }
+    ensures { IfOk result
+        (λ found. option_map thing_of found ≡ anchor_of compiled.now all.now.group) }
+{
+    let tallies = tallies(alloc, compiled, exchange, all, turns)?;
+    let least = least_parts(alloc, tallies.as_slice())?;
     match chosen_of(alloc, compiled.problem(), least.as_slice())? {
         Some(tally) => Ok(Some(tally.anchor)),
         None => Ok(None),
@@ -55,16 +74,17 @@ fn tallies(
     alloc: Global,
     compiled: &Compiled<'_>,
     exchange: &MirrorNames<'_>,
-    group: Group,
+    all: &Moves<'_>,
+    turns: &Moves<'_>,
 ) -> Result<Vec<AnchorTally>, AllocError>
-    requires { exchange.now ≡ compiled.now }
-    ensures { ReturnsItems result (tallies_of compiled.now group) }
+    requires exchange { exchange.now ≡ compiled.now }
+    requires all { all.now.puzzle ≡ compiled.now }
+    requires turns { turns.now ≡ moves_of compiled.now Rotations }
+    ensures { ReturnsItems result (tallies_of compiled.now all.now.group) }
 {
-    let turns = Moves::of(alloc, compiled, Group::Rotations)?;
-    let all = Moves::of(alloc, compiled, group)?;
     let mut tallies = Vec::new(alloc);
-    add_pieces(alloc, &mut tallies, compiled, exchange, &all, &turns)?;
-    let moves = cell_moves(exchange, &all, &turns);
+    add_pieces(alloc, &mut tallies, compiled, exchange, all, turns)?;
+    let moves = cell_moves(exchange, all, turns);
     add_cells(alloc, &mut tallies, compiled, moves)?;
     Ok(tallies)
 }
@@ -267,49 +287,40 @@ fn chosen_of(
 ) -> Result<Option<AnchorTally>, AllocError>
     ensures { Returns result (chosen_of problem.now tallies.now) }
 {
-    match fewest(tallies) {
+    match first_best(tallies, false) {
         None => Ok(None),
         Some(low) => {
             if is_below_all(alloc, problem, low.kept)? {
                 Ok(Some(low))
             } else {
-                Ok(most(tallies))
+                Ok(first_best(tallies, true))
             }
         }
     }
 }
 
-/// The first that keeps the fewest choices.
-fn fewest(tallies: &[AnchorTally]) -> Option<AnchorTally>
-    ensures { result ≡ first_best fewer tallies.now }
+/// The first that keeps the fewest choices, or the most.
+fn first_best(tallies: &[AnchorTally], most: bool) -> Option<AnchorTally>
+    ensures { result ≡ first_best (better_by most) tallies.now }
 {
     let mut best = 0;
     for k in 1..tallies.len() {
-        if keeps_fewer(&tallies[k], &tallies[best]) {
+        if is_better(&tallies[k], &tallies[best], most) {
             best = k;
         }
     }
     tallies.get(best).copied()
 }
 
-/// The first that keeps the most choices.
-fn most(tallies: &[AnchorTally]) -> Option<AnchorTally>
-    ensures { result ≡ first_best more tallies.now }
+/// Whether one keeps fewer choices than the other, or more.
+fn is_better(tally: &AnchorTally, other: &AnchorTally, most: bool) -> bool
+    ensures { result ≡ better_by most tally.now other.now }
 {
-    let mut best = 0;
-    for k in 1..tallies.len() {
-        if keeps_fewer(&tallies[best], &tallies[k]) {
-            best = k;
-        }
+    if most {
+        tally.kept > other.kept
+    } else {
+        tally.kept < other.kept
     }
-    tallies.get(best).copied()
-}
-
-/// Whether one keeps fewer choices than the other.
-fn keeps_fewer(tally: &AnchorTally, other: &AnchorTally) -> bool
-    ensures { result ≡ fewer tally.now other.now }
-{
-    tally.kept < other.kept
 }
 
 /// Whether each item that has to be covered has more options than a number.

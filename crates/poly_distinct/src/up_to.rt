@@ -1,17 +1,18 @@
 //! A search up to symmetry: the problem with fewer options, and the packings for which its exact covers stand.
-ghost use Rattle.std.specs.Prelude.{◌≡◌, IfOk, option_map};
+ghost use Rattle.std.specs.Prelude.{◌≡◌, IfOk, cond, option_map};
 ghost use Rattle.shared_words.specs.Answers.{Returns, ReturnsItems};
 ghost use Rattle.poly_place.specs.Packings.{packing_problem};
 ghost use Rattle.poly_place.specs.Listing.{AreExactCovers};
 ghost use Rattle.poly_distinct.specs.UpTo.{smaller, new_paths, part_of, stood_for, each_stands};
-ghost use Rattle.poly_distinct.specs.Rule.{anchor_of};
+ghost use Rattle.poly_distinct.specs.Rule.{anchor_of, may_reflect};
 ghost use Rattle.poly_distinct.specs.Moves.{thing_of};
 
 use crate::anchor::Anchor;
 use crate::exchange::MirrorNames;
-use crate::news::distinct_paths;
+use crate::moves::Moves;
+use crate::news::{distinct_paths, distinct_with};
 use crate::part::AnchorPart;
-use crate::rule::anchor_of;
+use crate::rule::{anchor_by, may_reflect};
 use cover_problem::{Lists, Problem};
 use poly_place::{Compiled, Group};
 use std::alloc::{AllocError, Global};
@@ -46,9 +47,30 @@ fn part_of<'a, 'p>(
     requires { exchange.now ≡ compiled.now }
     ensures { Returns result (part_of compiled.now group) }
 {
-    match anchor_of(alloc, compiled, exchange, group)? {
+    let turns = Moves::of(alloc, compiled, Group::Rotations)?;
+    let all = Moves::of(alloc, compiled, group)?;
+    match anchor_by(alloc, compiled, exchange, &all, &turns)? {
         None => Ok(None),
-        Some(anchor) => Ok(Some(AnchorPart::at(alloc, compiled, exchange, group, &anchor)?)),
+        Some(anchor) => {
+            let moves = moves_for(exchange, all, turns, &anchor);
+            Ok(Some(AnchorPart::at(alloc, compiled, moves, group, &anchor)?))
+        }
+    }
+}
+
+/// Of these moves those that may be used at an anchor.
+fn moves_for<'p>(
+    exchange: &MirrorNames<'_>,
+    all: Moves<'p>,
+    turns: Moves<'p>,
+    anchor: &Anchor,
+) -> Moves<'p>
+    ensures { result ≡ cond (may_reflect exchange.now (thing_of anchor.now)) all.entry turns.entry }
+{
+    if may_reflect(exchange, anchor) {
+        all
+    } else {
+        turns
     }
 }
 
@@ -98,7 +120,7 @@ impl<'a, 'p> Smaller<'a, 'p> {
             None => distinct_paths(alloc, self.compiled, visits, self.group),
             Some(part) => {
                 let paths = part.whole_paths(alloc, visits)?;
-                distinct_paths(alloc, self.compiled, &paths, self.group)
+                distinct_with(alloc, self.compiled, &paths, self.group, part.moves())
             }
         }
     }

@@ -6,7 +6,7 @@ use Rattle.std.specs.declared.alloc.Global.{Global}
 use Rattle.poly_place.specs.Chosen.{packing_value}
 use Rattle.poly_place.specs.Forms.{forms_cmp, key_of}
 use Rattle.poly_distinct.specs.Distinct.{new_from}
-use Rattle.poly_distinct.proofs.news.distinct_paths.Given as goal
+use Rattle.poly_distinct.proofs.news.distinct_by.Given as goal
 
 -- the new ones so far, and the keys of all so far
 abbrev pub invariant-loop-k : goal.invariant-loop-k

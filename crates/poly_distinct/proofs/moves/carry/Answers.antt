@@ -1,6 +1,6 @@
 use Rattle.std.proofs.Common.{arith}
 use Rattle.poly_cells.proofs.SetLemmas.{in_at}
-use Rattle.poly_distinct.proofs.moves.carried.Goals as goal
+use Rattle.poly_distinct.proofs.moves.carry.Goals as goal
 
 pub bounds-carrier-place : goal.bounds-carrier-place
 bounds-carrier-place c = c.requires _ (in_at c.args.places.now c.loop-place.place-index 0 c.loop-place-test.true)

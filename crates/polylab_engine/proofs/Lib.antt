@@ -1,3 +1,4 @@
+pub mod NumberLemmas
 pub mod AccountLemmas
 pub mod StopLemmas
 mod SearchLemmas

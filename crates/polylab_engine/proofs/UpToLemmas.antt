@@ -1,5 +1,5 @@
 -- What is written up to symmetry shows one packing of each class, in path order, and counts packings and classes.
-use Rattle.std.proofs.Common.{◌≡◌, ℕ, zero, suc, ◌-◌, ◌*◌, ◌<◌, ◌≤◌, Bool, true, false, Option, Some, None, List, [], ◌∷◌, map, length, get_or, ◌⊎◌, inl, inr, refl, sym, ap, subst, ◌∙◌, arith}
+use Rattle.std.proofs.Common.{◌≡◌, ℕ, zero, suc, ◌-◌, ◌*◌, ◌<◌, ◌≤◌, Bool, true, false, Option, Some, None, List, [], ◌∷◌, map, length, get_or, inl, inr, refl, sym, ap, subst, ◌∙◌, arith}
 use Rattle.std.proofs.lemmas.List.{length-map}
 use Rattle.text_lines.specs.Writing.{text_of}
 use Rattle.poly_cells.specs.Sets as sets
@@ -14,7 +14,7 @@ use Rattle.poly_place.specs.Packings.{Thing, packing_problem}
 use Rattle.poly_place.specs.Listing.{AreExactCovers}
 use Rattle.poly_place.proofs.CompiledLemmas.{is_problem}
 use Rattle.poly_distinct.specs.Rule.{anchor_of, symmetries_at}
-use Rattle.poly_distinct.specs.Distinct.{AreTheCovers, AreDifferent, AreOneOfEach, IsPartOf, numbers_left, whole_path, distinct_paths}
+use Rattle.poly_distinct.specs.Distinct.{AreTheCovers, AreDifferent, AreOneOfEach, IsPartOf, numbers_left, whole_path}
 use Rattle.poly_distinct.specs.UpTo.{smaller_at, smaller, whole_paths_at, whole_paths, new_paths, stood_for, each_stands}
 use Rattle.poly_distinct.specs.Free.{acts_freely}
 use Rattle.poly_distinct.proofs.NewLemmas.{distinct_part}
@@ -28,7 +28,7 @@ use Rattle.x_steps.specs.Run.{visits_between}
 use Rattle.x_steps.proofs.VisitLemmas.{visits_rise, visits_are_covers}
 use Rattle.polylab_engine.specs.Account.{ReportValue, account_of}
 use Rattle.polylab_engine.specs.Output.{whole_report}
-use Rattle.polylab_engine.specs.UpTo.{up_to_lines, smaller_report, solve_up_to_output, count_up_to_output, options_up_to_output}
+use Rattle.polylab_engine.specs.UpTo.{up_to_lines, solve_up_to_output, count_up_to_output, options_up_to_output}
 use Rattle.polylab_engine.specs.Listed.{ArePackingPaths, ListsDistinct, CountsDistinct, GivesSmaller}
 
 -- ---- paths in order

@@ -30,6 +30,10 @@ pub record ReportValue : Type 0 where
   pub steps : ℕ
   pub levels : List ℕ
 
+-- the report that has these
+abbrev pub report_with : List (List ℕ) → ℕ → ℕ → List ℕ → ReportValue
+report_with visits visited steps levels = record { visits = visits; visited = visited; steps = steps; levels = levels }
+
 -- the report of an account
 abbrev pub report_of : Account → ReportValue
 report_of a = record { visits = a.visits; visited = a.visited; steps = a.steps; levels = without_last_zeros a.entered }

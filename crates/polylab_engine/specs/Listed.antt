@@ -7,9 +7,7 @@
 -- proofs/JobExamples.antt shows it.
 use Rattle.std.specs.Prelude.{ℕ, ◌≡◌, ◌<◌, ◌≤◌, ◌⊎◌, ◌*◌, Bool, true, Option, Some, List, [], ◌∷◌, ◌++◌, length, map, take, Ok}
 use Rattle.text_lines.specs.Writing.{line_text, text_of}
-use Rattle.shared_words.specs.Lists.{has}
 use Rattle.cover_problem.specs.Problem.{ProblemValue}
-use Rattle.cover_problem.specs.ExactCover.{IsExactCover}
 use Rattle.cover_problem.specs.Grammar.{written}
 use Rattle.cover_problem.specs.Reading.{problem_of}
 use Rattle.poly_texts.specs.Puzzle.{PuzzleValue}

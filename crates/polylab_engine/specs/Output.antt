@@ -1,21 +1,28 @@
--- What `cover` writes: a line for each visit in path order, then how many visits and steps, and the levels.
+-- What `cover` writes: a line for each visit in path order, then how many visits and steps, and the levels. Numbers have all their digits,
+-- however many these are.
 --
 -- Example: for the small problem `visit 4 5 1`, `visits 1`, `steps 43`, `levels 1 2 2 1` (proofs/OutputExamples.antt computes it).
-use Rattle.std.specs.Prelude.{ℕ, List, [], ◌∷◌, ◌++◌, Bool, true, false, map, decimal, codes}
+use Rattle.std.specs.Prelude.{ℕ, List, [], ◌∷◌, ◌++◌, Bool, true, false, map, codes}
 use Rattle.text_lines.specs.Writing.{text_of}
 use Rattle.cover_problem.specs.Problem.{ProblemValue}
 use Rattle.x_steps.specs.StateValue.{start, done}
 use Rattle.x_steps.specs.Run.{states_between}
-use Rattle.x_texts.specs.Words.{visit_words, levels_words}
+use Rattle.cover_counts.specs.Digits.{numeral}
+use Rattle.x_texts.specs.Words.{visit_words}
 use Rattle.polylab_engine.specs.Account.{Account, ReportValue, account_of, report_of}
 
--- the lines of the steps and the levels, of level 0 at least
+-- the line of the counts of levels, level 0 at least
+abbrev pub level_words : List ℕ → List (List ℕ)
+level_words [] = codes "levels" ∷ codes "0" ∷ []
+level_words (count ∷ counts) = codes "levels" ∷ map numeral (count ∷ counts)
+
+-- the lines of the steps and the levels
 abbrev pub tally_lines : ℕ → List ℕ → List (List (List ℕ))
-tally_lines steps levels = (codes "steps" ∷ decimal steps ∷ []) ∷ levels_words levels ∷ []
+tally_lines steps levels = (codes "steps" ∷ numeral steps ∷ []) ∷ level_words levels ∷ []
 
 -- the lines after the visits: how many visits and steps, and the levels
 abbrev pub total_lines : ℕ → ℕ → List ℕ → List (List (List ℕ))
-total_lines visited steps levels = (codes "visits" ∷ decimal visited ∷ []) ∷ tally_lines steps levels
+total_lines visited steps levels = (codes "visits" ∷ numeral visited ∷ []) ∷ tally_lines steps levels
 
 -- what is written of a report that keeps its visits
 abbrev pub report_text : ReportValue → List ℕ

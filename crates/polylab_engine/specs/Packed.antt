@@ -8,12 +8,13 @@ use Rattle.poly_texts.specs.Puzzle.{PuzzleValue}
 use Rattle.cover_problem.specs.Grammar.{written}
 use Rattle.poly_place.specs.Packings.{packing_problem}
 use Rattle.poly_place.specs.Listing.{packings_from}
+use Rattle.cover_counts.specs.Digits.{numeral}
 use Rattle.polylab_engine.specs.Account.{ReportValue}
 use Rattle.polylab_engine.specs.Output.{whole_report, tally_lines}
 
 -- the line of the number of packings
 abbrev pub number_line : ℕ → List (List ℕ)
-number_line n = codes "packings" ∷ decimal n ∷ []
+number_line n = codes "packings" ∷ numeral n ∷ []
 
 -- the line of the number of options
 abbrev pub options_line : PuzzleValue → List (List ℕ)

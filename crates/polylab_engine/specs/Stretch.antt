@@ -8,7 +8,7 @@ use Rattle.cover_problem.specs.Problem.{ProblemValue}
 use Rattle.x_steps.specs.StateValue.{StateValue, done}
 use Rattle.x_steps.specs.Run.{states_between}
 use Rattle.x_branches.specs.Cut.{cut_state}
-use Rattle.polylab_engine.specs.Account.{ReportValue, account_of, report_of}
+use Rattle.polylab_engine.specs.Account.{Account, ReportValue, account_of, report_of}
 use Rattle.x_steps.specs.declared.state.Label.TheVariants.{Done}
 use Rattle.x_steps.specs.Run.{after, steps_between}
 use Rattle.x_steps.specs.Machine.{MachineValue}
@@ -42,7 +42,11 @@ stop_from most m end = state_at m (steps_taken most (steps_between m.problem m.s
 abbrev pub StopsAt : Option ℕ → Option ℕ → MachineValue → List ℕ → ℕ → StateValue → Type 0
 StopsAt first most m end visited s = (first ≡ Some visited) ⊎ (s ≡ stop_from most m end)
 
--- the report of the stretch from a machine's position up to t
+-- the account of the stretch from a machine's position up to t
+abbrev pub account_from : Bool → MachineValue → StateValue → Account
+account_from keeps m t = account_of keeps m.problem (states_between m.problem m.state t)
+
+-- and its report
 abbrev pub report_from : Bool → MachineValue → StateValue → ReportValue
 report_from keeps m t = stretch_report keeps m.problem m.state t
 

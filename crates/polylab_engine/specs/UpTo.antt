@@ -3,8 +3,7 @@
 --
 -- Example: the comment of `options --up-to rotations` at the piece Z, where each cover stands for 24 packings and no two covers are alike,
 -- is the lines `# up to rotations`, `# anchor Z`, `# packings for each cover 24` and `# no two covers are alike` (proofs/UpToExamples.antt).
-use Rattle.std.specs.Prelude.{ℕ, ◌≡◌, List, [], ◌∷◌, ◌++◌, Bool, true, false, Option, None, Some, length, decimal, codes}
-use Rattle.std.specs.Global.{Vec}
+use Rattle.std.specs.Prelude.{ℕ, List, [], ◌∷◌, ◌++◌, Bool, true, false, Option, None, Some, length, decimal, codes}
 use Rattle.text_lines.specs.Writing.{line_text, text_of}
 use Rattle.poly_texts.specs.Puzzle.{PuzzleValue}
 use Rattle.cover_problem.specs.Problem.{ProblemValue}
@@ -16,6 +15,7 @@ use Rattle.poly_place.specs.Listing.{packings_from}
 use Rattle.poly_distinct.specs.Free.{acts_freely}
 use Rattle.poly_distinct.specs.Rule.{anchor_of}
 use Rattle.poly_distinct.specs.UpTo.{smaller, new_paths, stood_for, each_stands}
+use Rattle.cover_counts.specs.Digits.{numeral}
 use Rattle.polylab_engine.specs.Account.{ReportValue}
 use Rattle.polylab_engine.specs.Output.{whole_report, tally_lines}
 use Rattle.polylab_engine.specs.Packed.{number_line}
@@ -27,7 +27,7 @@ group_word Symmetries = codes "symmetries"
 
 -- the line of the number of classes
 abbrev pub class_line : Group → ℕ → List (List ℕ)
-class_line group n = group_word group ∷ decimal n ∷ []
+class_line group n = group_word group ∷ numeral n ∷ []
 
 -- the report of the search of the smaller problem
 abbrev pub smaller_report : Group → PuzzleValue → ReportValue
@@ -44,12 +44,15 @@ abbrev pub up_to_lines : Group → ProblemValue → ℕ → ℕ → ℕ → List
 up_to_lines group q packings classes steps levels =
     number_line packings ∷ class_line group classes ∷ (codes "options" ∷ decimal (length q.options) ∷ []) ∷ tally_lines steps levels
 
--- what `count --up-to` writes: how many packings the search stands for, how many of those found are like none before them, and the
--- options, the steps and the levels of the search
-unfoldable pub count_up_to_output : Group → PuzzleValue → List ℕ
-count_up_to_output group p =
-    let r = smaller_report group p in
+-- of a report of the smaller problem: how many packings the visits stand for, how many of these are like none before them, and the options,
+-- the steps and the levels
+abbrev pub up_to_text : Group → PuzzleValue → ReportValue → List ℕ
+up_to_text group p r =
     text_of (up_to_lines group (smaller p group) (stood_for p group r.visits) (length (new_paths p group r.visits)) r.steps r.levels)
+
+-- what `count --up-to` writes
+unfoldable pub count_up_to_output : Group → PuzzleValue → List ℕ
+count_up_to_output group p = up_to_text group p (smaller_report group p)
 
 -- the word of the anchor
 abbrev pub anchor_word : Option Thing → List ℕ
@@ -78,10 +81,3 @@ comment_lines group anchor each free = anchor_lines group anchor ++ each_lines e
 unfoldable pub options_up_to_output : Group → PuzzleValue → List ℕ
 options_up_to_output group p =
     text_of (comment_lines group (anchor_of p group) (each_stands p group) (acts_freely p group)) ++ written (smaller p group)
-
--- ---- as the code has it
-
--- the bytes, if there are some, are this text
-abbrev pub IsTextIfAny : List ℕ → Option (Vec ℕ) → Type 0
-IsTextIfAny text None = Unit {0}
-IsTextIfAny text (Some bytes) = bytes.items ≡ text

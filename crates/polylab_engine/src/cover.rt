@@ -46,7 +46,7 @@ pub fn count_covers<W: Workers>(
 {
     let report = workers.search(alloc, problem, false)?;
     let mut text = Vec::new(alloc);
-    report.push_totals(&mut text)?;
+    report.push_totals(alloc, &mut text)?;
     Ok(text)
 }
 
@@ -55,7 +55,7 @@ pub fn report_text(alloc: Global, report: Report<VisitText>) -> Result<Vec<u8>, 
     ensures { ReturnsItems result (report_text report) }
 {
     let mut totals = Vec::new(alloc);
-    report.push_totals(&mut totals)?;
+    report.push_totals(alloc, &mut totals)?;
     visits_and(report, &totals)
 }
 
@@ -81,16 +81,21 @@ pub fn first_covers(
 {
     let report = search_first(alloc, problem, table, first)?;
     let mut end = Vec::new(alloc);
-    push_end(&mut end, &report, first)?;
+    push_end(alloc, &mut end, &report, first)?;
     visits_and(report, &end)
 }
 
 /// Adds the totals of a report that has fewer visits than were asked for, or else the line that tells how many these are.
-fn push_end(text: &mut Vec<u8>, report: &Report<VisitText>, first: u64) -> Result<(), AllocError>
+fn push_end(
+    alloc: Global,
+    text: &mut Vec<u8>,
+    report: &Report<VisitText>,
+    first: u64,
+) -> Result<(), AllocError>
     ensures { AddsLines result text.old text.new (cover_end first report.now) }
 {
-    if report.visited() < u128::from(first) {
-        report.push_totals(text)
+    if report.visited().is_below(first) {
+        report.push_totals(alloc, text)
     } else {
         write_number_line(text, "first", u128::from(first))
     }

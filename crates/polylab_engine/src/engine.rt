@@ -16,7 +16,6 @@ use crate::fault::{JobFault, pool_line};
 use crate::job::Job;
 use crate::report::Report;
 use crate::search::search_together;
-use crate::tables::TableKind;
 use crate::workers::{Alone, Team, Together, Workers};
 use byte_streams::{InputFault, Sink, Source, read_whole, write_whole};
 use cover_links::LinkTable;
@@ -144,11 +143,11 @@ fn run<W: Workers, I: Source, O: Sink, F: Sink>(
     status(&ending)
 }
 
-/// A run by one worker, which returns. The table can be asked for; else a short search chooses it.
+/// A run by one worker, which returns.
 pub fn run_alone<I: Source, O: Sink, F: Sink>(
     alloc: Global,
     job: Job,
-    table: Option<TableKind>,
+    worker: &Alone,
     reader: &mut I,
     writer: &mut O,
     faults: &mut F,
@@ -157,7 +156,7 @@ pub fn run_alone<I: Source, O: Sink, F: Sink>(
         (F.stream faults.old) (F.stream faults.new) result }
     ensures why { TellsAtFour result F.stream (pool_faults job NoPool) faults.old faults.new }
 {
-    run(alloc, job, &Alone { table }, reader, writer, faults)
+    run(alloc, job, worker, reader, writer, faults)
 }
 
 /// A run by workers who share its search.

@@ -7,10 +7,12 @@ ghost use Rattle.text_lines.specs.Writing.{line_text};
 ghost use Rattle.shared_words.specs.Answers.{ReturnsItems, Adds};
 
 use crate::fault::JobFault;
+use crate::numbers::write_natural_line;
 use crate::report::Report;
 use crate::search::search_first;
 use crate::tables::TableKind;
 use crate::workers::Workers;
+use cover_counts::Natural;
 use cover_problem::{Lists, write_cover};
 use poly_place::{Compiled, write_packings};
 use std::alloc::{AllocError, Global};
@@ -33,7 +35,7 @@ pub fn solve<W: Workers>(
     // The number comes last, as in each text here: a reader of the packings needs no second pass.
     let mut text = Vec::new(alloc);
     write_packings(alloc, &mut text, compiled, report.visits())?;
-    write_number_line(&mut text, "packings", report.visited())?;
+    write_natural_line(alloc, &mut text, "packings", report.visited())?;
     Ok(text)
 }
 
@@ -52,17 +54,22 @@ pub fn first_packings(
     let report = search_first(alloc, problem, table, first)?;
     let mut text = Vec::new(alloc);
     write_packings(alloc, &mut text, compiled, report.visits())?;
-    push_end(&mut text, report.visited(), first)?;
+    push_end(alloc, &mut text, report.visited(), first)?;
     Ok(text)
 }
 
 /// Adds the line of the number of packings where there are fewer than were asked for, or else the line that tells how many these are.
-fn push_end(text: &mut Vec<u8>, packings: u128, first: u64) -> Result<(), AllocError>
-    ensures { Adds result text.old text.new (line_text (packings_end first packings)) }
+fn push_end(
+    alloc: Global,
+    text: &mut Vec<u8>,
+    packings: &Natural,
+    first: u64,
+) -> Result<(), AllocError>
+    ensures { Adds result text.old text.new (line_text (packings_end first packings.now)) }
 {
     // With as many as were asked for the search didn't go on to see whether there are more, so it can't tell their number.
-    if packings < u128::from(first) {
-        write_number_line(text, "packings", packings)
+    if packings.is_below(first) {
+        write_natural_line(alloc, text, "packings", packings)
     } else {
         write_number_line(text, "first", u128::from(first))
     }
@@ -93,9 +100,9 @@ pub fn count_text(
 {
     let options = compiled.problem().options();
     let mut text = Vec::new(alloc);
-    write_number_line(&mut text, "packings", report.visited())?;
+    write_natural_line(alloc, &mut text, "packings", report.visited())?;
     write_number_line(&mut text, "options", u128::from(options))?;
-    report.push_steps(&mut text)?;
+    report.push_steps(alloc, &mut text)?;
     Ok(text)
 }
 

@@ -1,22 +1,23 @@
 //! The report of a whole search.
-ghost use Rattle.std.specs.Prelude.{◌≡◌, map, IfOk};
+ghost use Rattle.std.specs.Prelude.{◌≡◌, [], map, IfOk};
 ghost use Rattle.text_lines.specs.Writing.{text_of};
 ghost use Rattle.x_texts.specs.Words.{visit_words};
 ghost use Rattle.x_steps.specs.StateValue.{start};
 ghost use Rattle.x_branches.specs.Branch.{whole_run};
 ghost use Rattle.lab_book.specs.Posted.{IsFinished};
-ghost use Rattle.polylab_engine.specs.Account.{book_visits};
+ghost use Rattle.polylab_engine.specs.Account.{book_visits, report_with};
 ghost use Rattle.polylab_engine.specs.Output.{tally_lines, total_lines, whole_report};
 ghost use Rattle.text_lines.specs.Writes.{AddsLines};
 ghost use Rattle.shared_words.specs.Answers.{Returns};
 
+use crate::numbers::{naturals_of, write_levels, write_natural_line};
 use crate::visits::Visits;
+use cover_counts::{Counts, Natural};
 use cover_problem::Lists;
 use lab_book::Book;
 use std::alloc::{AllocError, Global};
 use std::marker::Model;
-use text_lines::write_number_line;
-use x_texts::{VisitText, write_levels};
+use x_texts::VisitText;
 
 /// The visits in path order, where they are kept, how many visits and steps there were, and how many X2 states at each level from 0
 /// on, up to the last that has one.
@@ -24,9 +25,9 @@ use x_texts::{VisitText, write_levels};
 pub struct Report<V: Visits> {
     // The tally moves its own in, and would copy them through a constructor.
     pub(crate) visits: V,
-    pub(crate) visited: u128,
-    pub(crate) steps: u128,
-    pub(crate) levels: Vec<u128>,
+    pub(crate) visited: Natural,
+    pub(crate) steps: Natural,
+    pub(crate) levels: Vec<Natural>,
 }
 
 impl<V: Visits> Model for Report<V> {
@@ -75,12 +76,22 @@ impl Report<Lists> {
     {
         let visits = visits_of(alloc, book, keeps)?;
         let levels = book.levels()?;
-        Ok(Report {
-            visits,
-            visited: book.visited(),
-            steps: book.steps(),
-            levels,
-        })
+        Report::of_numbers(alloc, visits, book.visited(), book.steps(), &levels)
+    }
+
+    /// The report of these counts of a whole run, which has no visit.
+    pub fn of_counts(alloc: Global, counts: Counts) -> Report<Lists>
+        ensures visits { result.visits ≡ [] }
+        ensures visited { result.visited ≡ counts.visits }
+        ensures steps { result.steps ≡ counts.steps }
+        ensures levels { result.levels ≡ counts.levels.items }
+    {
+        Report {
+            visits: Lists::new(alloc),
+            visited: counts.visits,
+            steps: counts.steps,
+            levels: counts.levels,
+        }
     }
 
     /// The visits that are kept.
@@ -114,26 +125,44 @@ impl Report<VisitText> {
 }
 
 impl<V: Visits> Report<V> {
-    /// How many visits there were.
-    pub fn visited(&self) -> u128
-        ensures { result ≡ self.now.visited }
+    /// The report of these visits and numbers.
+    pub fn of_numbers(
+        alloc: Global,
+        visits: V,
+        visited: u128,
+        steps: u128,
+        levels: &[u128],
+    ) -> Result<Report<V>, AllocError>
+        ensures { Returns result (report_with (V.visits visits) visited steps levels.now) }
     {
-        self.visited
+        Ok(Report {
+            visits,
+            visited: Natural::of_wide(alloc, visited)?,
+            steps: Natural::of_wide(alloc, steps)?,
+            levels: naturals_of(alloc, levels)?,
+        })
+    }
+
+    /// How many visits there were.
+    pub fn visited(&self) -> &Natural
+        ensures { result.now ≡ self.now.visited }
+    {
+        &self.visited
     }
 
     /// Adds the lines of the number of visits, of the steps and of the levels.
-    pub fn push_totals(&self, text: &mut Vec<u8>) -> Result<(), AllocError>
+    pub fn push_totals(&self, alloc: Global, text: &mut Vec<u8>) -> Result<(), AllocError>
         ensures { AddsLines result text.old text.new (total_lines self.now.visited self.now.steps self.now.levels) }
     {
-        write_number_line(text, "visits", self.visited)?;
-        self.push_steps(text)
+        write_natural_line(alloc, text, "visits", &self.visited)?;
+        self.push_steps(alloc, text)
     }
 
     /// Adds the lines of the steps and of the levels, of level 0 at least.
-    pub fn push_steps(&self, text: &mut Vec<u8>) -> Result<(), AllocError>
+    pub fn push_steps(&self, alloc: Global, text: &mut Vec<u8>) -> Result<(), AllocError>
         ensures { AddsLines result text.old text.new (tally_lines self.now.steps self.now.levels) }
     {
-        write_number_line(text, "steps", self.steps)?;
-        write_levels(text, &self.levels)
+        write_natural_line(alloc, text, "steps", &self.steps)?;
+        write_levels(alloc, text, &self.levels)
     }
 }

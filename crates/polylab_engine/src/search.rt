@@ -1,5 +1,5 @@
 //! The run of a problem, whole or up to a visit, and its report.
-ghost use Rattle.std.specs.Prelude.{IfOk, IfErr};
+ghost use Rattle.std.specs.Prelude.{false, IfOk, IfErr};
 ghost use Rattle.polylab_engine.specs.First.{IsFirstReport};
 ghost use Rattle.polylab_engine.specs.Output.{whole_report};
 ghost use Rattle.polylab_engine.specs.Refusals.{IsWantOrPool};
@@ -14,6 +14,7 @@ use crate::tables::{TableKind, table_for};
 use crate::visits::Visits;
 use crate::workers::Team;
 use cover_bits::BitTable;
+use cover_counts::count_all;
 use cover_links::LinkTable;
 use cover_problem::{Lists, Problem, Table};
 use lab_pool::{Gate, run_pool};
@@ -33,6 +34,35 @@ pub fn search_alone<V: Visits>(
     let searcher = Searcher::new(alloc, problem, table)?;
     let (report, _) = search_on::<V>(alloc, searcher, &[], None, None, keeps)?;
     Ok(report)
+}
+
+/// The report of one worker who searches what lies below a set of covered items once, as long as it is kept, in `room` bytes at most. It
+/// keeps no visit.
+pub fn count_alone(
+    alloc: Global,
+    problem: &Problem,
+    table: Option<TableKind>,
+    room: usize,
+) -> Result<Report<Lists>, AllocError>
+    ensures { Returns result (whole_report false problem.now) }
+{
+    match table_for(alloc, problem, 1, table) {
+        Some(TableKind::Links) => count_by::<LinkTable>(alloc, problem, room),
+        Some(TableKind::Bits) => count_by::<BitTable>(alloc, problem, room),
+        None => Err(AllocError),
+    }
+}
+
+/// The same by tables of this kind.
+fn count_by<T: Table>(
+    alloc: Global,
+    problem: &Problem,
+    room: usize,
+) -> Result<Report<Lists>, AllocError>
+    ensures { Returns result (whole_report false problem.now) }
+{
+    let counts = count_all::<T>(alloc, problem, room)?;
+    Ok(Report::of_counts(alloc, counts))
 }
 
 /// The report of one worker up to the visit of this number, or of the whole run where it has fewer. It keeps the visits.

@@ -1,5 +1,5 @@
 //! A search by one of the tables. Where none was asked for it may go on by the other one.
-ghost use Rattle.std.specs.Prelude.{◌≡◌, IfOk};
+ghost use Rattle.std.specs.Prelude.{◌≡◌, IfOk, IfSome};
 ghost use Rattle.shared_words.specs.Answers.{Returns};
 ghost use Rattle.cover_problem.specs.Problem.{IsProblem};
 ghost use Rattle.x_steps.specs.StateValue.{start};
@@ -62,26 +62,36 @@ pub fn first_state(alloc: Global) -> State
     }
 }
 
-/// Goes on by bits at the same state, where there is memory for them.
-fn by_bits(alloc: Global, links: Machine<'_, LinkTable>) -> AnyMachine<'_>
-    ensures { machine_value result ≡ links.entry }
+/// By bits at the same state, if they have room, a short search from there on prefers them, and there is memory for them.
+fn by_bits<'p>(alloc: Global, links: &mut Machine<'p, LinkTable>) -> Option<AnyMachine<'p>>
+    ensures same { links.new ≡ links.old }
+    ensures better { IfSome result (λ m. machine_value m ≡ links.old) }
 {
+    // The short search goes back, so that no table is made again where links are taken.
+    if !has_room(links.problem(), 1) || !prefers_bits(alloc, links) {
+        return None;
+    }
     match machine_at::<BitTable>(alloc, links.problem(), links.state()) {
-        Ok(bits) => AnyMachine::Bits(bits),
-        Err(_) => AnyMachine::Links(links),
+        Ok(bits) => Some(AnyMachine::Bits(bits)),
+        Err(_) => None,
     }
 }
 
-/// By bits where they have room and a short search from here on prefers them, or else by links.
-fn preferred(alloc: Global, links: Machine<'_, LinkTable>) -> AnyMachine<'_>
-    ensures { machine_value result ≡ links.entry }
+/// By links at the same state, if a short search from there on prefers them and there is memory for them.
+fn by_links<'p>(alloc: Global, bits: &Machine<'p, BitTable>) -> Option<AnyMachine<'p>>
+    ensures { IfSome result (λ m. machine_value m ≡ bits.now) }
 {
-    let mut links = links;
-    // The short search goes back, so that no table is made again where links are taken.
-    if has_room(links.problem(), 1) && prefers_bits(alloc, &mut links) {
-        by_bits(alloc, links)
-    } else {
-        AnyMachine::Links(links)
+    // Links tell what either table would pay. Bits could too, but the short search is to cost little where links are better.
+    match machine_at::<LinkTable>(alloc, bits.problem(), bits.state()) {
+        Ok(links) => {
+            let mut links = links;
+            if prefers_bits(alloc, &mut links) {
+                None
+            } else {
+                Some(AnyMachine::Links(links))
+            }
+        }
+        Err(_) => None,
     }
 }
 
@@ -99,22 +109,10 @@ fn first_preferred<'p>(
             return Ok(AnyMachine::Bits(bits));
         }
     }
-    Ok(preferred(alloc, machine_at(alloc, problem, state)?))
-}
-
-/// By links where a short search from here on prefers them and there is memory for them, or else by bits.
-fn preferred_again(alloc: Global, bits: Machine<'_, BitTable>) -> AnyMachine<'_>
-    ensures { machine_value result ≡ bits.entry }
-{
-    // Links tell what either table would pay. Bits could too, but the short search is to cost little where links are better.
-    let Ok(links) = machine_at::<LinkTable>(alloc, bits.problem(), bits.state()) else {
-        return AnyMachine::Bits(bits);
-    };
-    let mut links = links;
-    if prefers_bits(alloc, &mut links) {
-        AnyMachine::Bits(bits)
-    } else {
-        AnyMachine::Links(links)
+    let mut links = machine_at(alloc, problem, state)?;
+    match by_bits(alloc, &mut links) {
+        Some(bits) => Ok(bits),
+        None => Ok(AnyMachine::Links(links)),
     }
 }
 
@@ -171,19 +169,20 @@ impl<'p> Searcher<'p> {
         Searcher::at(alloc, problem, table, &state)
     }
 
-    /// The same search, by the table that is preferred from here on, where none was asked for.
-    pub fn asked_again(self, alloc: Global) -> Searcher<'p>
-        ensures { stands result ≡ stands self.entry }
+    /// Goes on by the table that is preferred from here on, where none was asked for.
+    pub fn ask_again(&mut self, alloc: Global)
+        ensures { stands self.new ≡ stands self.old }
     {
-        let Searcher { machine, is_free } = self;
-        if !is_free {
-            return Searcher { machine, is_free };
+        if !self.is_free {
+            return;
         }
-        let machine = match machine {
-            AnyMachine::Links(links) => preferred(alloc, links),
-            AnyMachine::Bits(bits) => preferred_again(alloc, bits),
+        let better = match &mut self.machine {
+            AnyMachine::Links(links) => by_bits(alloc, links),
+            AnyMachine::Bits(bits) => by_links(alloc, bits),
         };
-        Searcher { machine, is_free }
+        if let Some(machine) = better {
+            self.machine = machine;
+        }
     }
 
     /// The search is at a state of its problem's run.

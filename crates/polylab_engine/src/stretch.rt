@@ -1,11 +1,12 @@
 //! A stretch of a run: a machine is taken on, and what it passes is counted.
-ghost use Rattle.std.specs.Prelude.{◌≡◌, ◌<◌, ◌≤◌, ◌-◌, ◌+◌, ◌⊎◌, ℕ, Some, length, option_map, IfOk, IfSome, IsTrue};
+ghost use Rattle.std.specs.Prelude.{◌≡◌, ◌<◌, ◌≤◌, ◌-◌, ◌+◌, ◌⊎◌, ℕ, Some, length, option_map, IfOk, OnOk, IfSome, IsTrue};
 ghost use Rattle.std.specs.Option.{ForSome};
 ghost use Rattle.x_steps.specs.StateView.{state_value};
 ghost use Rattle.x_steps.specs.Steps.{Fits};
 ghost use Rattle.x_steps.specs.Walk.{IsAtCut, IsWalkOf, CountsHaveRoom};
 ghost use Rattle.x_branches.specs.RunOrder.{ComesBefore};
-ghost use Rattle.polylab_engine.specs.Stretch.{end_at, report_from, IsAtEnd, StopsAt, state_at};
+ghost use Rattle.polylab_engine.specs.Account.{empty_account};
+ghost use Rattle.polylab_engine.specs.Stretch.{end_at, account_from, report_from, IsAtEnd, StopsAt, state_at};
 ghost use Rattle.polylab_engine.specs.Searcher.{stands};
 
 use crate::report::Report;
@@ -90,6 +91,56 @@ fn walk_on(searcher: &mut Searcher<'_>, most: u32, end: &[u32], counts: &mut [u3
     }
 }
 
+/// Walks on up to where a stretch stops, and adds all that is passed to the tally, in which there is nothing yet.
+// By itself: what it works on is lent, so that no way out of its loop has to let it go.
+fn walk_to_stop<V: Visits>(
+    alloc: Global,
+    searcher: &mut Searcher<'_>,
+    tally: &mut RunTally<V>,
+    end: &[u32],
+    most: Option<u64>,
+    first: Option<u64>,
+    keeps: bool,
+) -> Result<(), AllocError>
+    requires end { Fits (stands searcher.old).problem (end_at end.now) }
+    requires not_past { ComesBefore (stands searcher.old).problem (end_at end.now) (stands searcher.old).state → ⊥ }
+    requires empty { tally.old ≡ empty_account (length (stands searcher.old).problem.names) }
+    ensures stop { OnOk result
+        (StopsAt first most (stands searcher.old) end.now tally.new.visited (stands searcher.new).state) }
+    ensures first { OnOk result (ForSome first (λ n. tally.new.visited ≤ n)) }
+    ensures fits { OnOk result (Fits (stands searcher.old).problem (stands searcher.new).state) }
+    ensures account { OnOk result (tally.new ≡ account_from keeps (stands searcher.old) (stands searcher.new).state) }
+{
+    searcher.stands_in_run();
+    let items = searcher.problem().items();
+    let mut counts = no_counts(alloc, items)?;
+    // The machine counts in 32 bits, which so many steps can't pass; then the counts go to totals without a bound. The first time
+    // that is soon, since then the table is asked for again.
+    let mut room = BEFORE_ASKING;
+    let mut left = most;
+    loop {
+        let walk = walk_on(
+            searcher,
+            pace_of(room, left, tally.is_full(first)),
+            end,
+            &mut counts,
+        );
+        if walk.steps == 0 {
+            tally.add_counts(&counts)?;
+            return Ok(());
+        }
+        tally.note(keeps, walk, &searcher.state().path)?;
+        left = left_after(left, walk.steps);
+        room -= walk.steps;
+        if room == 0 {
+            tally.add_counts(&counts)?;
+            counts = no_counts(alloc, items)?;
+            room = u32::MAX;
+            searcher.ask_again(alloc);
+        }
+    }
+}
+
 /// Takes a search on, up to the end of a branch, which is the cut of these choices, or Done where there are none; or as many steps
 /// as are asked for, or up to the visit of the number `first`, where these come first. Answers the report of the stretch, which keeps
 /// the visits or not, and the state where it stops. Memory doesn't grow with the stretch, but for visits that are kept.
@@ -110,34 +161,9 @@ pub fn search_on<V: Visits>(
     ensures report { IfOk result (λ r. r.0 ≡ report_from keeps (stands searcher.entry) (state_value r.1)) }
 {
     searcher.stands_in_run();
-    let items = searcher.problem().items();
     let mut searcher = searcher;
-    let mut tally = RunTally::<V>::new(alloc, items)?;
-    let mut counts = no_counts(alloc, items)?;
-    // The machine counts in 32 bits, which so many steps can't pass; then the counts go to totals without a bound. The first time
-    // that is soon, since then the table is asked for again.
-    let mut room = BEFORE_ASKING;
-    let mut left = most;
-    loop {
-        let walk = walk_on(
-            &mut searcher,
-            pace_of(room, left, tally.is_full(first)),
-            end,
-            &mut counts,
-        );
-        if walk.steps == 0 {
-            tally.add_counts(&counts)?;
-            let stop = searcher.state().copy()?;
-            return Ok((tally.report(alloc)?, stop));
-        }
-        tally.note(keeps, walk, &searcher.state().path)?;
-        left = left_after(left, walk.steps);
-        room -= walk.steps;
-        if room == 0 {
-            tally.add_counts(&counts)?;
-            counts = no_counts(alloc, items)?;
-            room = u32::MAX;
-            searcher = searcher.asked_again(alloc);
-        }
-    }
+    let mut tally = RunTally::<V>::new(alloc, searcher.problem().items())?;
+    walk_to_stop(alloc, &mut searcher, &mut tally, end, most, first, keeps)?;
+    let stop = searcher.state().copy()?;
+    Ok((tally.report(alloc)?, stop))
 }

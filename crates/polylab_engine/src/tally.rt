@@ -117,12 +117,13 @@ impl<V: Visits> RunTally<V> {
         // A run's levels end at the last that was entered; a tally has them all from its beginning.
         let mut levels = totals_of(alloc, &self.entered)?;
         drop_last_zeros(&mut levels);
-        Ok(Report {
-            visits: self.visits,
-            visited: self.visited.total(),
-            steps: self.steps.total(),
-            levels,
-        })
+        Report::of_numbers(
+            alloc,
+            self.visits,
+            self.visited.total(),
+            self.steps.total(),
+            &levels,
+        )
     }
 }
 

@@ -10,7 +10,7 @@ ghost use Rattle.lab_pool.specs.declared.fault.PoolFault.{PoolFault};
 
 use crate::fault::JobFault;
 use crate::report::Report;
-use crate::search::search_alone;
+use crate::search::{count_alone, search_alone};
 use crate::tables::TableKind;
 use cover_problem::{Lists, Problem};
 use lab_pool::PoolFault;
@@ -74,7 +74,11 @@ pub trait Workers {
 /// for commands.
 #[derive(Drop)]
 pub struct Alone {
+    /// The table that was asked for, if one was; else a short search chooses it.
     pub table: Option<TableKind>,
+    /// How many bytes are for counts of what lies below sets of covered items, if some are: where no visit is asked for, each such set is
+    /// then searched once, as long as its counts are kept.
+    pub cache: Option<usize>,
 }
 
 impl Workers for Alone {
@@ -92,7 +96,10 @@ impl Workers for Alone {
         problem: &Problem,
         keeps: bool,
     ) -> Result<Report<Lists>, JobFault> {
-        Ok(search_alone::<Lists>(alloc, problem, self.table, keeps)?)
+        Ok(match self.cache {
+            Some(room) if !keeps => count_alone(alloc, problem, self.table, room)?,
+            _ => search_alone::<Lists>(alloc, problem, self.table, keeps)?,
+        })
     }
 
     fn list(&self, alloc: Global, problem: &Problem) -> Result<Report<VisitText>, JobFault> {

@@ -8,7 +8,7 @@ ghost use Rattle.polylab_line.specs.Line.{TellsNoJob, TellsWhy, search_faults, s
 use crate::line::{LineFault, Request};
 use byte_streams::{Sink, Source, write_whole};
 use lab_pool::Gate;
-use polylab_engine::{Team, run_alone, run_together};
+use polylab_engine::{Alone, Team, run_alone, run_together};
 use std::alloc::Global;
 use std::sync::Wait;
 use std::thread::Threads;
@@ -30,6 +30,11 @@ fn tell<O: Sink, F: Sink>(fault: &LineFault, writer: &mut O, faults: &mut F)
         LineFault::Usage(text) => write(faults, text.as_bytes()),
         LineFault::OutOfMemory => write(faults, b"refused memory\n"),
     }
+}
+
+/// How many bytes these megabytes are.
+fn bytes_in(megabytes: u32) -> usize {
+    megabytes as usize * 1_000_000
 }
 
 /// Does the job that was asked for, or tells why there is none, and answers the exit status: 0, 2, 3, 4 or 5.
@@ -63,10 +68,15 @@ pub fn status<R: Threads + Wait + Sync, G: Gate, I: Source, O: Sink, F: Sink>(
         job,
         workers,
         table,
+        cache,
     } = asked;
     // One worker needs no thread. Commands may ask for more workers, so they do.
     if workers == 1 && !job.takes_commands() {
-        run_alone(alloc, job, table, reader, writer, faults)
+        let worker = Alone {
+            table,
+            cache: cache.map(bytes_in),
+        };
+        run_alone(alloc, job, &worker, reader, writer, faults)
     } else {
         let crew = Team {
             rt,

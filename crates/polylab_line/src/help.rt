@@ -28,8 +28,8 @@ Exit statuses:
 
 pub(crate) const COVER: JobHelp = JobHelp {
     name: "cover",
-    usage: "polylab cover [[--workers N] [--count] | --first N] [--table links|bits]
-       < COVER-TEXT",
+    usage: "polylab cover [[--workers N] [--count] | --count --cache MB | --first N]
+       [--table links|bits] < COVER-TEXT",
     about: "Lists the exact covers of a cover text.",
     text: "\
 The text names items, then options as lists of items. An exact cover is a set of
@@ -58,7 +58,9 @@ of Algorithm X, and how many paths of 0, 1, 2, .. choices it met.
 With --first N the search stops at the N-th cover, if there are so many: the
 first N are printed as above, and then the line `first N`. One worker finds them.
 
-With --count the lines `visit` are left out, and no cover is kept.
+With --count the lines `visit` are left out, and no cover is kept. With --cache
+MB too, what lies below a set of items is counted once, as long as its counts
+are kept in MB megabytes (see `count --help`); what is printed is the same.
 
 With --workers N, N threads share the search; what is printed is the same.
 --table links takes dancing links and --table bits bit sets, where a short
@@ -113,7 +115,7 @@ workers not done, 5 reading or writing failed.",
 
 pub(crate) const COUNT: JobHelp = JobHelp {
     name: "count",
-    usage: "polylab count [--workers N] [--table links|bits]
+    usage: "polylab count [--workers N | --cache MB] [--table links|bits]
        [--classes | --up-to rotations|symmetries] < PUZZLE",
     about: "Counts the packings of a puzzle.",
     text: "\
@@ -147,12 +149,21 @@ the depth of polycubes, more for deeper runs, and 12 GB where visits are as many
 as with dominoes. One worker keeps these numbers alone. --table TABLE is as with
 `cover` (see `cover --help`).
 
+With --cache MB one worker searches what lies below a set of pieces and cells
+once, as long as its counts are kept in MB megabytes. What is printed is the
+same, with all digits, and comes much sooner if pieces may be used any number of
+times: the 2444888770250892795802079170816 packings of dominoes in 16 x 16 take
+some seconds. If each piece is used once, it is slower than without.
+
 Exit statuses: 0 done, 2 command line refused, 3 text refused, 4 no memory or
 workers not done, 5 reading or writing failed.",
 };
 
 pub(crate) const CLASSES: &str =
     "Also counts the packings up to rotations, and up to all symmetries";
+
+pub(crate) const CACHE: &str =
+    "How many megabytes are for counts that one worker keeps, 1 to 4294967295";
 
 pub(crate) const WORKERS: &str = "How many threads share the search, 1 to 32";
 

@@ -12,7 +12,7 @@ use polylab_engine::{CoverJob, Group, Job, PuzzleJob, TableKind};
 use shared_words::MOST_WORKERS;
 use std::alloc::{AllocError, Global};
 
-/// A job, how many workers do it, 1 to 32, and the table that was asked for, if one was.
+/// A job, how many workers do it, 1 to 32, and the table and the cache that were asked for, if they were.
 #[derive(Clone, Copy, Debug, PartialEq, Eq)]
 pub struct Request {
     /// What is to be done.
@@ -21,6 +21,8 @@ pub struct Request {
     pub workers: u32,
     /// The table that was named; None where a short search chooses.
     pub table: Option<TableKind>,
+    /// How many megabytes are for counts that are kept, if some are. One worker keeps them.
+    pub cache: Option<u32>,
 }
 
 /// Why the words name no job. The texts are `clap`'s, but for `--first` with several workers, and for words that are not text.
@@ -87,6 +89,14 @@ fn table<'a>(alloc: Global) -> Arg<'a> {
         .help(help::TABLE)
 }
 
+/// The option that says how many megabytes are for counts that are kept. Workers share no cache.
+fn cache<'a>(alloc: Global) -> Result<Arg<'a>, AllocError> {
+    option(alloc, "cache", "MB")
+        .value_parser(value_parser!(u32).range(1..))
+        .help(help::CACHE)
+        .conflicts_with("workers")
+}
+
 /// The option that says how many are asked for.
 fn first<'a>(alloc: Global) -> Arg<'a> {
     option(alloc, "first", "N")
@@ -121,7 +131,9 @@ fn listed<'a>(alloc: Global, told: &JobHelp) -> Result<Command<'a>, AllocError> 
 /// The job `cover`.
 fn cover<'a>(alloc: Global) -> Result<Command<'a>, AllocError> {
     let count = flag(alloc, "count", help::COUNT_ALONE);
-    listed(alloc, &help::COVER)?.arg(count.conflicts_with("first")?)
+    listed(alloc, &help::COVER)?
+        .arg(count.conflicts_with("first")?)?
+        .arg(cache(alloc)?.requires_arg("count")?)
 }
 
 /// The job `solve`.
@@ -135,7 +147,8 @@ fn count<'a>(alloc: Global) -> Result<Command<'a>, AllocError> {
         .arg(workers(alloc))?
         .arg(table(alloc))?
         .arg(flag(alloc, "classes", help::CLASSES))?
-        .arg(up_to(alloc).conflicts_with("classes")?)
+        .arg(up_to(alloc).conflicts_with("classes")?)?
+        .arg(cache(alloc)?.conflicts_with("classes")?)
 }
 
 /// The job `resume`.
@@ -206,12 +219,14 @@ fn request_in(matches: &ArgMatches<'_>) -> Request
             job: Job::Cover(CoverJob::List),
             workers: 1,
             table: None,
+            cache: None,
         };
     };
     Request {
         job: job_of(name, words),
         workers: workers_in(words),
         table: table_in(words),
+        cache: words.get_one::<u32>("cache"),
     }
 }
 

@@ -166,14 +166,9 @@ static LINES: [Line; 29] = [
     ),
 ];
 
-/// Whether words ask for what stands there.
-fn is_read(alloc: Global, line: &Line) -> bool {
-    let wanted = Request {
-        job: line.1,
-        workers: line.2,
-        table: line.3,
-    };
-    match parse_line(alloc, line.0) {
+/// Whether words ask for this.
+fn is_read(alloc: Global, words: &[&str], wanted: Request) -> bool {
+    match parse_line(alloc, words) {
         Ok(read) => read == wanted,
         Err(_) => false,
     }
@@ -182,7 +177,48 @@ fn is_read(alloc: Global, line: &Line) -> bool {
 #[test]
 fn the_job_is_read(rt: HostRuntime) {
     for line in &LINES {
-        assert!(rt; is_read(rt.alloc(), line));
+        let wanted = Request {
+            job: line.1,
+            workers: line.2,
+            table: line.3,
+            cache: None,
+        };
+        assert!(rt; is_read(rt.alloc(), line.0, wanted));
+    }
+}
+
+/// Words, and the job of one worker and the megabytes that they ask for.
+struct CachedLine(&'static [&'static str], Job, u32);
+
+static CACHED: [CachedLine; 4] = [
+    CachedLine(&["count", "--cache", "1"], Job::Puzzle(PuzzleJob::Count), 1),
+    CachedLine(
+        &["count", "--cache=4294967295"],
+        Job::Puzzle(PuzzleJob::Count),
+        u32::MAX,
+    ),
+    CachedLine(
+        &["count", "--up-to", "rotations", "--cache", "7"],
+        Job::Puzzle(PuzzleJob::CountUpTo(Group::Rotations)),
+        7,
+    ),
+    CachedLine(
+        &["cover", "--cache", "100", "--count"],
+        Job::Cover(CoverJob::Count),
+        100,
+    ),
+];
+
+#[test]
+fn the_cache_is_read(rt: HostRuntime) {
+    for line in &CACHED {
+        let wanted = Request {
+            job: line.1,
+            workers: 1,
+            table: None,
+            cache: Some(line.2),
+        };
+        assert!(rt; is_read(rt.alloc(), line.0, wanted));
     }
 }
 
@@ -234,7 +270,7 @@ fn help_is_given(rt: HostRuntime) {
     assert_end(&rt, rt.alloc(), &HELPED, 0, true, false);
 }
 
-static REFUSED: [Words; 49] = [
+static REFUSED: [Words; 60] = [
     Words(&[]),
     Words(&["cover", "--first", "0"]),
     Words(&["solve", "--first", "x"]),
@@ -284,6 +320,17 @@ static REFUSED: [Words; 49] = [
     Words(&["resume", "--up-to", "rotations"]),
     Words(&["debug", "--up-to", "rotations"]),
     Words(&["options", "--up-to", "rotations", "--up-to", "symmetries"]),
+    Words(&["count", "--cache"]),
+    Words(&["count", "--cache", "0"]),
+    Words(&["count", "--cache", "x"]),
+    Words(&["count", "--cache", "4294967296"]),
+    Words(&["count", "--cache", "1", "--workers", "2"]),
+    Words(&["count", "--cache=1", "--classes"]),
+    Words(&["cover", "--cache", "1"]),
+    Words(&["cover", "--count", "--cache", "1", "--workers=1"]),
+    Words(&["solve", "--cache", "1"]),
+    Words(&["options", "--cache", "1"]),
+    Words(&["resume", "--cache", "1"]),
 ];
 
 #[test]

@@ -9,6 +9,7 @@ pub fn shared(job: Job, workers: u32) -> Request {
         job,
         workers,
         table: None,
+        cache: None,
     }
 }
 

@@ -1,5 +1,5 @@
 -- The laws of what `resume` writes, and of runs of it.
-use Rattle.std.proofs.Common.{◌≡◌, ◌∙◌, ◌⊎◌, inl, inr, ℕ, Bool, true, Option, Some, List, [], ◌∷◌, ◌++◌, Result, Ok, Err, refl, sym, ap, subst, arith, append-nil}
+use Rattle.std.proofs.Common.{◌≡◌, ◌∙◌, ◌⊎◌, inl, inr, ℕ, Bool, true, Option, Some, List, [], ◌∷◌, ◌++◌, Ok, refl, sym, ap, subst, arith, append-nil}
 use Rattle.std.proofs.Common as common
 use Rattle.std.specs.List.{list_all}
 use Rattle.std.proofs.lemmas.Bool.{and_parts}

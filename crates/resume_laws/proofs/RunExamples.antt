@@ -1,6 +1,6 @@
 -- The example of specs/ResumedTexts.antt as runs: what `job_outcome` writes of the small problem's start, and of what that run leaves. So the
 -- premises of the laws can be met.
-use Rattle.std.proofs.Common.{◌≡◌, ◌∙◌, ◌⊎◌, inl, inr, ℕ, zero, suc, ◌<◌, length, true, false, Some, [], ◌∷◌, ◌++◌, List, Ok, refl, sym, ap, ap₂, subst, arith, lit<, lit≤}
+use Rattle.std.proofs.Common.{◌≡◌, ◌∙◌, inl, inr, ℕ, zero, suc, ◌<◌, length, true, false, Some, [], ◌∷◌, ◌++◌, List, Ok, refl, sym, ap, ap₂, subst, arith, lit<, lit≤}
 use Rattle.std.proofs.Common as common
 use Rattle.cover_problem.specs.Covering.{choice, active, remaining}
 use Rattle.cover_problem.specs.Path.{covered_by, taken}

@@ -101,10 +101,12 @@ class Browser:
         return self.value("(() => { const it = document.querySelector(%s); it.scrollIntoView({block: 'center', behavior: 'instant'}); const box = it.getBoundingClientRect();"
                           " return [box.left + box.width / 2, box.top + box.height / 2]; })()" % json.dumps(selector))
 
-    def click(self, selector):
-        """Clicks the middle of an element."""
+    def click(self, selector, meanwhile="0"):
+        """Clicks the middle of an element; something may happen in the page while the mouse is down."""
         x, y = self.middle(selector)
         for kind in ("mouseMoved", "mousePressed", "mouseReleased"):
+            if kind == "mouseReleased":
+                self.value(meanwhile)
             self.ask("Input.dispatchMouseEvent", type=kind, x=x, y=y, button="none" if kind == "mouseMoved" else "left", clickCount=0 if kind == "mouseMoved" else 1)
 
     def look(self, width, height, scale=1, dark=False, touch=False):

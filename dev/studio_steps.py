@@ -197,6 +197,46 @@ def check_text(page):
     return "a text that is broken, and mended"
 
 
+def check_meanwhile(page):
+    """A click counts even if an answer comes while the mouse is down. What was typed or undone a moment ago isn't lost by drawing."""
+    text = page.text()
+    page.type("text", "piece A 000 100\npiece B 000\n")
+    page.until("studio.lines.pieces.length === 2 && document.querySelector('#boxes button') !== null", "two pieces")
+    for selector, wanted in (("#pieces li:nth-child(2) .card b", "studio.chosen.names === 'B'"), ("#layertabs button:nth-child(2) canvas", "studio.layer === 1"),
+            ("#layertabs button:nth-child(1)", "studio.layer === 0"), ("#pieces li:nth-child(1) .card", "studio.chosen.names === 'A'"),
+            ("#boxes button", "studio.lines.box?.size.join() === '3,1,1'")):
+        page.browser.click(selector, "drawAll()")
+        need(page.value(wanted), "a click on %s is lost where an answer comes" % selector)
+    page.settled()
+    page.type("text", "peice A 000\n")
+    page.until("document.querySelector('#faults button') !== null", "a fault")
+    page.browser.click("#faults button", "drawAll()")
+    need(page.value("get('text').selectionEnd") == 5, "a click on a fault is lost where an answer comes")
+    page.type("text", "")
+    page.settled()
+    page.press("newpiece")
+    page.cell(0, 0)
+    page.cell(1, 0)
+    page.settled()
+    # (a line before the one that is drawn, with the cursor in it: it is read first, or at once a cell is set)
+    for words, x, is_read in (("# one\n", 2, True), ("# two\n", 3, False)):
+        page.value("(get('text').focus(), get('text').setSelectionRange(0, 0))")
+        page.browser.ask("Input.insertText", text=words)
+        page.value("get('text').setSelectionRange(0, 0)")
+        if is_read:
+            page.settled()
+        page.cell(x, 0)
+        page.settled()
+    need(page.text() == "# two\n# one\npiece A 000 100 200 300\n", "lines that were typed are lost by drawing: %s" % page.text())
+    page.press("undo")
+    page.cell(0, 1)
+    page.settled()
+    need(page.text() == "# two\n# one\npiece A 000 100 200 010\n", "what was undone comes back by drawing: %s" % page.text())
+    page.type("text", text)
+    page.settled()
+    return "clicks while answers come, and nothing lost by drawing"
+
+
 def check_stopped(page):
     """A long search tells how far it is, is stopped, goes on, and is stopped by another."""
     soma, path = page.text(), "examples/first/bricks-6x6x6.puzzle"

@@ -69,18 +69,17 @@ function makeGrid(table, [wide, high]) {
 // A small picture of each layer, to choose it by.
 function drawLayers(cells, size) {
   const tabs = get("layertabs"), many = size[2], hadFocus = tabs.contains(document.activeElement);
-  tabs.textContent = "";
-  for (let z = 0; z < many; z++) {
-    const tab = make(tabs, "button", "", "layertab"), canvas = make(tab, "canvas"), isNow = z === studio.layer;
+  kept(tabs, "button", many, "layertab").forEach((tab, z) => {
+    const isNow = z === studio.layer, [canvas, said] = tab.children.length ? tab.children : [make(tab, "canvas"), make(tab, "span")];
     tab.setAttribute("role", "tab");
     tab.setAttribute("aria-selected", isNow);
     tab.setAttribute("aria-label", "Layer z = " + z);
     tab.tabIndex = isNow ? 0 : -1;
     tab.onclick = () => chooseLayer(z);
     drawLayer(canvas, cells, size, z);
-    make(tab, "span", "z = " + DIGITS[z]);
+    said.textContent = "z = " + DIGITS[z];
     if (isNow && hadFocus) tab.focus();
-  }
+  });
   get("layersaid").textContent = "Layer z = " + studio.layer + (studio.layer ? ". A dot is a cell of the layer below." : ", the lowest.");
 }
 function drawLayer(canvas, cells, size, z) {
@@ -149,11 +148,12 @@ function goToCell(x, y) {
 
 function listenGrid() {
   const table = get("grid");
-  let painting = null, isFinger = false;
+  let painting = null, isFinger = false, isDown = false;
+  const lifted = () => { painting = null; isDown = false; };
   // (a finger that moves on goes over the page: what it taps is set when it is lifted)
   table.onclick = event => {
     const place = isFinger && placeAt(event.clientX, event.clientY);
-    if (place) { goToCell(place[0], place[1]); switchCell(place); }
+    if (place) { goToCell(place[0], place[1]); onceRead(() => switchCell(place)); }
   };
   table.onpointerdown = event => {
     const place = placeAt(event.clientX, event.clientY);
@@ -161,16 +161,20 @@ function listenGrid() {
     if (!place || event.button !== 0 || isFinger) return;
     event.preventDefault();
     goToCell(place[0], place[1]);
-    painting = changed(cellsNow().get(keyOf(place)));
-    setCell(place, painting);
+    isDown = true;
+    onceRead(() => {
+      const how = changed(cellsNow().get(keyOf(place)));
+      if (isDown) painting = how;
+      setCell(place, how);
+    });
   };
   table.onpointermove = event => {
     if (painting === null || !event.buttons) return;
-    const place = placeAt(event.clientX, event.clientY);
-    if (place) setCell(place, painting);
+    const place = placeAt(event.clientX, event.clientY), how = painting;
+    if (place) onceRead(() => setCell(place, how));
   };
-  window.addEventListener("pointerup", () => { painting = null; });
-  window.addEventListener("pointercancel", () => { painting = null; });
+  window.addEventListener("pointerup", lifted);
+  window.addEventListener("pointercancel", lifted);
   table.onkeydown = event => {
     if (event.ctrlKey || event.metaKey || event.altKey) return;
     const [x, y] = grid.at, last = grid.size[0] - 1;
@@ -178,7 +182,7 @@ function listenGrid() {
     const by = {PageUp: 1, PageDown: -1}[event.key];
     if (to) goToCell(...to);
     else if (by) { chooseLayer(studio.layer + by); goToCell(...grid.at); }
-    else if (event.key === " " || event.key === "Enter") { switchCell([x, y, studio.layer]); goToCell(...grid.at); }
+    else if (event.key === " " || event.key === "Enter") onceRead(() => { switchCell([x, y, studio.layer]); goToCell(...grid.at); });
     else return;
     event.preventDefault();
   };

@@ -37,13 +37,10 @@ function usedOf(entry) {
 function drawPieces() {
   const box = get("pieces"), {pieces} = studio.lines, chosen = studio.chosen, list = chosen !== "region" && chosen && !chosen.line ? [...pieces, chosen] : pieces;
   const held = document.activeElement?.closest?.("#pieces .card")?.dataset.names;
-  box.textContent = "";
-  for (const entry of list) {
-    const card = make(make(box, "li"), "button", "", "card"), canvas = make(card, "canvas"), words = make(card, "span");
-    canvas.width = 96;
-    canvas.height = 76;
-    canvas.setAttribute("aria-hidden", "true");
+  kept(box, "li", list.length).forEach((row, at) => {
+    const entry = list[at], card = row.firstChild || makeCard(row), [canvas, words] = card.children;
     card.dataset.names = entry.names;
+    words.textContent = "";
     drawSmall(canvas, entry.cells, colourOf(entry.names));
     const ways = studio.told.numbers.ways[entry.names.replace("+", "")[0]];
     make(words, "b", entry.names);
@@ -53,9 +50,17 @@ function drawPieces() {
     card.setAttribute("aria-current", entry === chosen);
     card.onclick = () => choosePiece(entry);
     if (entry.names === held) card.focus({preventScroll: true});
-  }
+  });
   get("nopieces").hidden = pieces.length > 0;
   drawRegionCard();
+}
+
+function makeCard(row) {
+  const card = make(row, "button", "", "card"), canvas = make(card, "canvas");
+  make(card, "span");
+  Object.assign(canvas, {width: 96, height: 76});
+  canvas.setAttribute("aria-hidden", "true");
+  return card;
 }
 
 function drawRegionCard() {
@@ -70,13 +75,16 @@ function drawRegionCard() {
 // Boxes that have as many cells as the pieces, to be chosen by a click.
 function drawBoxes() {
   const box = get("boxes"), [sure, most] = studio.told.numbers.pieces, found = [];
+  const isAsked = !studio.told.numbers.region[1] && sure && sure === most && !studio.told.numbers.any?.length;
+  if (box.dataset.of === String(isAsked && sure)) return;
+  box.dataset.of = isAsked && sure;
   box.textContent = "";
-  if (studio.told.numbers.region[1] || !sure || sure !== most || studio.told.numbers.any?.length) return;
+  if (!isAsked) return;
   for (let z = 1; z <= 32; z++) for (let y = z; y <= 32; y++) if (sure % (y * z) === 0 && sure / y / z >= y && sure / y / z <= 32) found.push([sure / y / z, y, z]);
   // (the most like a cube first)
   found.sort((one, other) => Math.max(...one) - Math.max(...other));
   if (found.length) make(box, "small", sure + " cells fit in ");
-  for (const size of found.slice(0, 4)) make(box, "button", size.join(" × ")).onclick = () => { studio.lines.setBox(size); drawn("region"); };
+  for (const size of found.slice(0, 4)) make(box, "button", size.join(" × ")).onclick = () => onceRead(() => { studio.lines.setBox(size); drawn("region"); });
 }
 
 // Another piece in the editor.
@@ -123,9 +131,8 @@ function namesFor(entry, least, most) {
 }
 
 // How often the piece is used.
-function setNeed() {
-  const entry = studio.chosen, need = get("need").value;
-  let least = Math.floor(+get("least").value), most = Math.floor(+get("most").value);
+function setNeed(need, least, most) {
+  const entry = studio.chosen;
   if (need === "copies" && !(most >= 2)) [least, most] = [2, 2];
   most = Math.min(62, most);
   const names = need === "copies" ? namesFor(entry, Math.max(0, Math.min(least || 0, most)), most) : symbolsOf(entry.names)[0];
@@ -134,8 +141,8 @@ function setNeed() {
   written();
 }
 
-function setName() {
-  const entry = studio.chosen, name = get("piecename").value, own = symbolsOf(entry.names);
+function setName(name) {
+  const entry = studio.chosen, own = symbolsOf(entry.names);
   if (name === own[0]) return;
   if (!/^[0-9A-Za-z]$/.test(name)) { say("A piece has one letter or digit as its name.", true); return; }
   if (!own.includes(name) && !studio.lines.free(DATA.letters).includes(name)) { say("There is a piece " + name + " already.", true); return; }
@@ -146,15 +153,15 @@ function setName() {
 }
 
 // The colour stands in a comment of the piece's line, or of a line of its own where that has another comment.
-function setColour() {
-  const entry = studio.chosen, name = symbolsOf(entry.names)[0], words = "# colour " + name + " " + get("colour").value, {rows} = studio.lines;
+function setColour(colour) {
+  const entry = studio.chosen, name = symbolsOf(entry.names)[0], words = "# colour " + name + " " + colour, {rows} = studio.lines;
   const own = new RegExp("#[ \\t]*colou?r[ \\t]+" + name + "[ \\t]+#[0-9a-fA-F]{6}"), at = rows.findIndex(row => own.test(row));
   if (!entry.line) return;
   if (at >= 0) rows[at] = rows[at].replace(own, words);
   else if (!(entry.comment || "").trim()) { entry.comment = " " + words; studio.lines.write(entry); }
   else rows[rows.length - 1] === "" ? rows.splice(rows.length - 1, 0, words) : rows.push(words);
   if (at >= 0 && entry.line === at + 1) entry.comment = " " + rows[at].slice(rows[at].indexOf("#"));
-  DATA.colours = {...DATA.colours, [name]: get("colour").value};
+  DATA.colours = {...DATA.colours, [name]: colour};
   drawn();
 }
 
@@ -193,10 +200,13 @@ function removePiece() {
 // Adds the lines of a set, each by a name that is free.
 async function addSet(name) {
   const {lines} = await askedFor("set", {name}), told = await askedFor("read", {text: lines.join("\n") + "\n"});
+  onceRead(() => addLines(told.lines));
+}
+function addLines(added) {
   const free = freeNames();
-  if (told.lines.length > free.length) throw new Error("There are 62 names for pieces, and " + free.length + " are free: the set has " + told.lines.length + ".");
+  if (added.length > free.length) { say("There are 62 names for pieces, and " + free.length + " are free: the set has " + added.length + ".", true); return; }
   let first = null;
-  for (const read of told.lines) {
+  for (const read of added) {
     const left = freeNames(), names = left.includes(read.names) ? read.names : left[0];
     const entry = studio.lines.add({...read, names, comment: ""});
     first = first || entry;
@@ -205,22 +215,24 @@ async function addSet(name) {
 }
 
 function listenPieces() {
-  get("newpiece").onclick = () => { choosePiece({...newPiece(), isAsked: true}); get("grid").querySelector("[tabindex='0']")?.focus(); };
+  const value = id => get(id).value, whole = id => Math.floor(+value(id)), press = (id, act) => { get(id).onclick = () => onceRead(act); };
+  // (what stands in a box is taken at once: it is drawn anew when the text is read)
+  const change = (id, read, act) => { get(id).onchange = () => { const words = read(); onceRead(() => act(...words)); }; };
+  press("newpiece", () => { choosePiece({...newPiece(), isAsked: true}); get("grid").querySelector("[tabindex='0']")?.focus(); });
   get("region").onclick = () => choosePiece("region");
-  get("need").onchange = get("least").onchange = get("most").onchange = setNeed;
-  get("piecename").onchange = () => { setName(); get("piecename").value = symbolsOf(studio.chosen.names)[0]; };
-  get("mirror").onchange = () => { studio.chosen.mirror = get("mirror").checked; written(); };
-  get("colour").onchange = setColour;
-  ["x", "y", "z"].forEach((name, axis) => { get("turn" + name).onclick = () => setCells(turnedBy(studio.chosen.cells, axis)); });
-  get("reflect").onclick = () => setCells(reflected(studio.chosen.cells));
-  get("shift").onclick = makeRoom;
-  get("copy").onclick = copyPiece;
-  get("remove").onclick = removePiece;
+  for (const id of ["need", "least", "most"]) change(id, () => [value("need"), whole("least"), whole("most")], setNeed);
+  change("piecename", () => [value("piecename")], name => { setName(name); get("piecename").value = symbolsOf(studio.chosen.names)[0]; });
+  change("mirror", () => [get("mirror").checked], isMirrored => { studio.chosen.mirror = isMirrored; written(); });
+  change("colour", () => [value("colour")], setColour);
+  ["x", "y", "z"].forEach((name, axis) => press("turn" + name, () => setCells(turnedBy(studio.chosen.cells, axis))));
+  press("reflect", () => setCells(reflected(studio.chosen.cells)));
+  press("shift", makeRoom);
+  press("copy", copyPiece);
+  press("remove", removePiece);
   get("sets").onchange = () => { const name = get("sets").value; get("sets").value = ""; if (name) trying(() => addSet(name)); };
   get("setbox").onclick = () => {
-    const size = ["boxx", "boxy", "boxz"].map(id => Math.floor(+get(id).value));
+    const size = ["boxx", "boxy", "boxz"].map(whole);
     if (!size.every(it => it >= 1 && it <= LONGEST)) { say("A box is 1 to 32 cells long, wide and high.", true); return; }
-    studio.lines.setBox(size);
-    drawn("region");
+    onceRead(() => { studio.lines.setBox(size); drawn("region"); });
   };
 }

@@ -14,6 +14,17 @@ const ENDED = "The studio that this page belongs to has ended. What you drew is 
 const many = number => number.toLocaleString("en");
 function counted(number, one, more = one + "s") { return many(number) + " " + (number === 1 ? one : more); }
 
+// Changes the lines once they are those of the text: what was typed or undone a moment ago is read first.
+let later = [];
+function onceRead(act) { if (studio.lines.text === studio.text) act(); else later.push(act); }
+
+// As many children of a kind as are wanted, to be drawn anew: those that are there stay, since a click is lost if what was pressed goes before it ends.
+function kept(parent, kind, many, name) {
+  while (parent.children.length > many) parent.lastElementChild.remove();
+  while (parent.children.length < many) make(parent, kind, "", name);
+  return [...parent.children];
+}
+
 // Asks the server. What it can't do is an error with its sentence.
 async function ask(name, body = {}, kind = "application/json") {
   let answer;
@@ -101,13 +112,17 @@ function take(text, told) {
   studio.told = told;
   studio.lines = new Lines(text, told.lines);
   DATA.colours = told.colours;
-  if (before !== "region" && !(before?.isAsked && studio.wanted === undefined)) {
+  // (a new piece is asked for as long as it has no line)
+  if (before !== "region" && !(before?.isAsked && !before.line && studio.wanted === undefined)) {
     const {pieces} = studio.lines, names = studio.wanted || before?.names;
     const isThere = it => it.line === before?.line, isNamed = it => it.names === names;
     studio.chosen = pieces.find(it => isThere(it) && isNamed(it)) || pieces.find(isNamed) || pieces.find(isThere) || pieces[0] || newPiece();
   }
   chooseTyped();
   studio.wanted = undefined;
+  const acts = later;
+  later = [];
+  acts.forEach(act => act());
   drawAll();
 }
 
@@ -138,7 +153,9 @@ function drawMarks() {
 
 // The faults in words; each leads to its place.
 function drawFaults() {
-  const list = get("faults"), {faults, other, more} = studio.told;
+  const list = get("faults"), {faults, other, more} = studio.told, said = JSON.stringify([faults, other, more]);
+  if (list.dataset.said === said) return;
+  list.dataset.said = said;
   list.textContent = "";
   const shown = faults.filter(it => !it.is_missing);
   get("text").setAttribute("aria-invalid", shown.length > 0);

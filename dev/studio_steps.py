@@ -35,7 +35,8 @@ class Page:
         """Waits until an expression is true in the page."""
         end = time.monotonic() + PATIENCE
         while not self.value(holds):
-            need(time.monotonic() < end, "it doesn't come to be: %s (%s, %s)" % (what, self.browser.notes(), self.value("get('messagetext').textContent")))
+            if time.monotonic() > end:
+                need(False, "it doesn't come to be: %s (%s, %s)" % (what, self.browser.notes(), self.value("document.getElementById('messagetext')?.textContent")))
             time.sleep(0.1)
         need(not self.browser.faults, "%s: %s" % (what, self.browser.faults))
 
@@ -154,8 +155,8 @@ def check_kept(page):
     page.until("get('text').value === %s" % json.dumps(text), "redo")
     page.settled()
     page.until("location.hash.startsWith('#puzzle=')", "the address holds the puzzle")
-    page.value("location.reload()")
-    page.until("window.studio === undefined && typeof studio !== 'undefined' && document.body?.dataset.begun === '1' && get('text').value === %s" % json.dumps(text), "the page is loaded again")
+    page.value("(window.isBefore = true, location.reload())")
+    page.until("window.isBefore === undefined && typeof studio !== 'undefined' && document.body?.dataset.begun === '1' && get('text').value === %s" % json.dumps(text), "the page is loaded again")
     page.press("burrtools")
     need(page.saved(".xmpuzzle").count(b"<voxel") == 8, "there is no file of BurrTools")
     page.press("solids")

@@ -121,11 +121,12 @@ class Tree:
         node.text, self.words = "".join(self.words), []
 
 
-def attribute(node, name, default=None):
+def attribute(node, name):
     """A whole number that an element has."""
-    value = node.get(name, default)
+    value = node.get(name)
     if value is None or not re.fullmatch("[0-9]{1,9}", str(value)):
-        stop("<%s> has %s for `%s`, which is no number" % (node.tag, "nothing" if value is None else "`%s`" % value, name))
+        said = "nothing" if value is None else "`%s`" % value if len(str(value)) < 40 else "%d characters" % len(str(value))
+        stop("<%s> has %s for `%s`, which is no whole number of at most nine digits" % (node.tag, said, name))
     return int(value)
 
 
@@ -273,8 +274,8 @@ def shape_of(node, shapes):
 def counts_of(problem, shapes, tell):
     """The shapes that a problem lays, each with the least and the greatest number."""
     for node in problem.all("shapes/shape"):
-        shape, count = shape_of(node, shapes), node.get("count")
-        least, most = attribute(node, "min", count), attribute(node, "max", count)
+        shape = shape_of(node, shapes)
+        least, most = (attribute(node, "count" if node.get(name) is None else name) for name in ("min", "max"))
         if least > most:
             stop("shape %s is laid %d to %d times" % (shape.name, least, most))
         if most:

@@ -119,10 +119,14 @@ class Browser:
         """Loads a page, and waits until it is drawn."""
         # (by way of another page, for one that differs in what comes after # alone isn't loaded again)
         for it in ("about:blank", address):
-            self.ask("Page.navigate", url=it)
-            while self.told().get("method") != "Page.loadEventFired":
-                pass
+            self.loaded("Page.navigate", url=it)
         self.rest_a_while()
+
+    def loaded(self, method, **words):
+        """Waits for the page that a command loads; what is asked of the one before meanwhile may never be answered."""
+        self.ask(method, **words)
+        while self.told().get("method") != "Page.loadEventFired":
+            pass
 
     def rest_a_while(self):
         """Waits until the page has drawn what it had to, and more finely what has come to rest."""

@@ -39,7 +39,11 @@ def deep():
         assert estimate.share(state.split()) == share, state[:20]
     estimate, calls = slices.Estimate(DOUBLE), 0
     state = ["X2", "-", "2", *(str(at) for at in range(3, 2 * DEEP, 2))]
-    while (share := estimate.share(state, time.process_time() + 0.004)) is None:
+    # (a call reads the path first: on a slow machine that alone takes some thousandths of a second)
+    reads = time.process_time()
+    slices.numbers(state[2:])
+    reads = time.process_time() - reads
+    while (share := estimate.share(state, time.process_time() + 0.004 + reads)) is None:
         calls += 1
     assert calls and share == 0.5, (calls, share)
     assert estimate.share(["X2", "-", "1"]) == 0 and estimate.share(["X5", "2"]) == 0.5
@@ -49,8 +53,20 @@ def deep():
     assert estimate.share(["X2", "-", "77777"]) is None and estimate.share(state) is None
 
 
+def steps_after(start, seconds):
+    """How many steps slices of so many seconds come to have where a run takes so long to start, and a step takes a millionth of a second."""
+    count, most = slices.Sliced("count", ""), slices.FIRST
+    count.shortest = start
+    for _ in range(40):
+        most = count.next_steps(most, seconds, start + most * 1e-6)
+    return most
+
+
 if __name__ == "__main__":
     deep()
+    # (where the start alone takes longer than a slice is to take, half of each slice is the start)
+    for start, seconds, wanted in ((0.05, 20, 19.95e6), (2, 1, 2e6), (600, 20, 600e6)):
+        assert abs(steps_after(start, seconds) - wanted) < 0.01 * wanted, (start, steps_after(start, seconds))
     for share, told in SHARES.items():
         assert slices.share_told(share) == told, share
     for seconds, told in SPANS.items():

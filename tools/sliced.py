@@ -2,6 +2,7 @@
 tools/studio. Plain Python, NOT PROVED; it trusts what the program prints of each slice, and looks that slices are of one problem and branch, and have as
 many steps as asked for."""
 
+import math
 import time
 
 from frame import stop
@@ -19,7 +20,7 @@ class Sliced:
 
     def __init__(self, job, text, launch=launched):
         self.job, self.text, self.launch, self.snapshot = job, text, launch, None
-        self.sums, self.before, self.begun, self.sliced = Sums(), 0, time.monotonic(), 0.0
+        self.sums, self.before, self.begun, self.sliced, self.shortest = Sums(), 0, time.monotonic(), 0.0, math.inf
 
     @property
     def seconds(self):
@@ -28,8 +29,9 @@ class Sliced:
 
     def begin(self):
         """Makes the snapshot of the start."""
-        words = ["debug", "--cover"] if self.job == "cover" else ["debug"]
+        words, begun = ["debug", "--cover"] if self.job == "cover" else ["debug"], time.monotonic()
         self.snapshot = snapshot_of(saved(asked(words, self.text + "%%\nsave\n", self.launch)), "what the debugger saved")
+        self.shortest = time.monotonic() - begun
 
     def slice(self, most, is_listed=False):
         """Searches so many steps more, or up to the end: whether that was the end, how many seconds it took, and the lines of the visits if they are
@@ -48,6 +50,7 @@ class Sliced:
         self.sums.add(answer)
         took = time.monotonic() - begun
         self.sliced += took
+        self.shortest = min(self.shortest, took)
         return answer.rest is None, took, visits
 
     def share(self, estimate):
@@ -57,7 +60,7 @@ class Sliced:
         estimate.spent += time.process_time() - now
         return share
 
-
-def next_steps(most, seconds, took):
-    """How many steps the next slice has, so that it takes so many seconds."""
-    return min(MOST, max(1, int(most * min(GROWTH, seconds / max(took, 0.001)))))
+    def next_steps(self, most, seconds, took):
+        """How many steps the next slice has, so that it takes so many seconds, or twice the shortest run if that is longer: of seconds that the start
+        of the program needs, fewer and fewer steps would come."""
+        return min(MOST, max(1, int(most * min(GROWTH, max(seconds, 2 * self.shortest) / max(took, 0.001)))))

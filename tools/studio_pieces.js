@@ -218,7 +218,7 @@ function listenPieces() {
   const value = id => get(id).value, whole = id => Math.floor(+value(id)), press = (id, act) => { get(id).onclick = () => onceRead(act); };
   // (what stands in a box is taken at once: it is drawn anew when the text is read)
   const change = (id, read, act) => { get(id).onchange = () => { const words = read(); onceRead(() => act(...words)); }; };
-  press("newpiece", () => { choosePiece({...newPiece(), isAsked: true}); get("grid").querySelector("[tabindex='0']")?.focus(); });
+  press("newpiece", () => { grid.at = [0, 0]; choosePiece({...newPiece(), isAsked: true}); get("grid").querySelector("[tabindex='0']")?.focus(); });
   get("region").onclick = () => choosePiece("region");
   for (const id of ["need", "least", "most"]) change(id, () => [value("need"), whole("least"), whole("most")], setNeed);
   change("piecename", () => [value("piecename")], name => { setName(name); get("piecename").value = symbolsOf(studio.chosen.names)[0]; });

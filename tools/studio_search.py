@@ -10,7 +10,7 @@ import time
 from drawing import Drawing
 from frame import Stop, stop
 from shares import Estimate
-from sliced import Sliced, next_steps
+from sliced import Sliced
 from snapshots import asked, number, numbers, problem_text
 from up_to import Smaller
 
@@ -174,7 +174,7 @@ class Search:
     def step(self):
         """One slice more; whether it was the last."""
         is_end, took, visits = self.sliced.slice(self.most, KINDS[self.kind] > 0)
-        self.most = max(FIRST, next_steps(self.most, SECONDS, took))
+        self.most = max(FIRST, self.sliced.next_steps(self.most, SECONDS, took))
         is_full = self.found.add(visits, self.sliced.snapshot.problem)
         share = 1.0 if is_end else self.sliced.share(self.estimate)
         left = self.estimate.left(share, self.sliced.seconds) if share and not is_end else None

@@ -21,7 +21,7 @@ def focus(page, name):
 
 
 def check_keys(page):
-    """A puzzle is drawn, searched and shown by keys alone."""
+    """A piece is drawn and turned by keys alone."""
     page.press("fresh")
     page.settled()
     page.value("document.activeElement.blur()")
@@ -47,7 +47,7 @@ def check_keys(page):
 
 
 def check_region(page):
-    """A region by keys: a box, a cell cut out, one that may stay empty, one added."""
+    """A region by keys: a box, a cell cut out, one that may stay empty, one added. And a search of it."""
     page.press("fresh")
     page.settled()
     focus(page, "region")
@@ -71,7 +71,23 @@ def check_region(page):
     page.settled()
     need(page.text() == "box 2 2 1\ncut 000\nmaybe cells 100\ncells 200\n", "the region is %s" % page.text())
     need(page.value("studio.told.numbers.region.join()") == "3,4", "the region has %s cells" % page.value("studio.told.numbers.region.join()"))
-    return "a region by keys"
+    # A piece of one cell that is used any number of times fills it in one way, which is searched for and shown.
+    focus(page, "newpiece")
+    for key in ("Enter", " "):
+        page.browser.press(key)
+    focus(page, "need")
+    page.browser.press("ArrowDown", 3)
+    page.settled()
+    need(page.text().startswith("any piece A 000\n"), "by keys the piece is %s" % page.text())
+    focus(page, "[data-kind=all]")
+    page.browser.press("Enter")
+    page.until("document.body.dataset.search === 'done' && document.body.dataset.found === '1'", "a search by keys")
+    page.shown("dataset.total === '1'", "a packing")
+    page.value("get('frame').removeAttribute('src')")
+    focus(page, "show")
+    page.browser.press("Enter")
+    page.shown("dataset.total === '1'", "the packing is shown by keys")
+    return "a region and a search by keys"
 
 
 def check_names(page):

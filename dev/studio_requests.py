@@ -1,6 +1,7 @@
 """What a studio answers without a browser: it has to refuse whoever isn't its page, and what is too large, and to end what it began. For dev/check_studio.
 Plain Python, NOT PROVED."""
 
+import contextlib
 import json
 import os
 import socket
@@ -9,6 +10,8 @@ import time
 
 from tree import TOP  # (first: it leads to the modules of tools/)
 from studio_process import PATIENCE, Studio, need
+from studio_runs import Runs
+from studio_search import Search
 
 SOMA = "".join("piece %s\n" % it for it in ("V 000 100 010", "L 000 100 200 010", "T 000 100 200 110", "Z 000 100 110 210", "A 000 100 010 011", "B 000 100 010 101",
     "P 000 100 010 001")) + "box 3 3 3\n"
@@ -18,6 +21,10 @@ def check_door(studio):
     """Without the secret, by another name, or from another page nothing is answered."""
     there, own = "/%s/" % studio.secret, "http://127.0.0.1:%d" % studio.port
     need(studio.ask("GET", there)[0] == 200, "the page isn't there")
+    # (a server of all addresses would answer there too)
+    with contextlib.suppress(OSError):
+        socket.create_connection(("127.0.0.2", studio.port), PATIENCE).close()
+        need(False, "the studio listens on more than 127.0.0.1")
     for path in ("/x/", "/%s" % studio.secret, "/%s/" % studio.secret[:-1], "/%s/../" % studio.secret[:-1], "/events", "/open/", "/open/x", "/etc/passwd",
             there + "../studio", there + "studio.py", there + "made/../studio.py", there + "%2e%2e/studio"):
         status = studio.ask("GET", path)[0]
@@ -157,6 +164,27 @@ def check_failures(work):
     return "searches that fail"
 
 
+def check_minutes():
+    """A search that took its time waits, and goes on when it is told to; meanwhile nothing runs."""
+    with open(os.path.join(TOP, "examples", "first", "bricks-6x6x6.puzzle"), encoding="ascii") as file:
+        long = file.read()
+    runs = Runs(2000)
+    search, steps = Search(runs, 0.01 / 60), 0
+    try:
+        search.begin("count", long)
+        for _ in range(2):
+            search.thread.join(PATIENCE)
+            now = search.told()[1]
+            need(now["state"] == "paused" and "and waits: go on" in now["said"] and now["steps"] > steps, "after its minutes a search is %s" % now)
+            need(all(it.poll() is not None for it in runs.running), "a search that waits still runs")
+            steps = now["steps"]
+            search.go_on()
+    finally:
+        search.forget()
+        runs.end()
+    return "a search that took its minutes"
+
+
 def check_search(studio):
     """The Soma cube has 11,520 packings in 240 classes; a long search is stopped, goes on, and ends with its page."""
     line, answer = studio.events()
@@ -183,6 +211,13 @@ def check_search(studio):
     need(not studio.left(), "a search that was stopped leaves %s" % studio.left())
     studio.post("go")
     while next_told(answer)["steps"] <= first["steps"]:
+        pass
+    # (another search takes its place)
+    studio.post("search", kind="first", text=SOMA)
+    now = waited(answer, "done")
+    need((now["kind"], now["found"]) == ("first", 1) and not studio.left(), "two searches at a time: %s, and %s" % (now, studio.left()))
+    studio.post("search", kind="count", text=long)
+    while not next_told(answer)["steps"]:
         pass
     answer.close()
     line.close()

@@ -5,10 +5,11 @@ import contextlib
 import http.server
 import json
 import os
+import subprocess
 import threading
 import time
 
-from studio_process import PATIENCE, need
+from studio_process import PATIENCE, TOP, need
 
 # The Soma pieces as they are drawn: the cells of each layer.
 SOMA = {"V": [(0, 0, 0), (1, 0, 0), (0, 1, 0)], "L": [(0, 0, 0), (1, 0, 0), (2, 0, 0), (0, 1, 0)], "T": [(0, 0, 0), (1, 0, 0), (2, 0, 0), (1, 1, 0)],
@@ -42,7 +43,7 @@ class Page:
 
     def settled(self):
         """Waits until what was drawn or typed is read."""
-        self.until("studio.told.faults !== undefined && studio.lines.text === studio.text && document.body.dataset.read === '1'", "the text is read")
+        self.until("studio.lines.text === studio.text && studio.answered === studio.asking", "the text is read")
 
     def press(self, name):
         """Clicks an element by its id."""
@@ -66,6 +67,10 @@ class Page:
     def says(self, words, what):
         """Waits until the page says something."""
         self.until("get('messagetext').textContent.includes(%s)" % json.dumps(words), what)
+
+    def shown(self, holds, what):
+        """Waits until a page that was made is shown, as it stays."""
+        self.until("!isShowing && document.body.dataset.frame === get('frame').getAttribute('src') && get('frame').contentDocument.body.%s" % holds, what)
 
     def saved(self, end):
         """The bytes of the file that the page saves next, whose name has this end."""
@@ -238,6 +243,100 @@ def check_meanwhile(page):
     return "clicks while answers come, and nothing lost by drawing"
 
 
+# Of a piece of three cells what each of its controls makes, one after the other.
+KINDS = (("get('need').value = 'maybe'", "need", "maybe piece A 000 100 010"), ("get('mirror').checked = true", "mirror", "maybe mirror piece A 000 100 010"),
+    ("get('need').value = 'any'", "need", "any mirror piece A 000 100 010"), ("get('mirror').checked = false", "mirror", "any piece A 000 100 010"),
+    ("get('need').value = 'copies'", "need", "copies AB 000 100 010"), ("get('most').value = 4", "most", "copies AB+CD 000 100 010"),
+    ("get('least').value = 0", "least", "copies +ABCD 000 100 010"), ("get('need').value = ''", "need", "piece A 000 100 010"),
+    ("get('colour').value = '#123456'", "colour", "piece A 000 100 010 # colour A #123456"))
+# And its cells, turned, mirrored and moved.
+TURNS = (("turnx", {(0, 0, 1), (1, 0, 1), (0, 0, 0)}), ("reflect", {(1, 0, 1), (0, 0, 1), (1, 0, 0)}), ("turny", {(1, 0, 0), (1, 0, 1), (0, 0, 0)}),
+    ("turnz", {(0, 0, 0), (0, 0, 1), (0, 1, 0)}), ("shift", {(1, 1, 1), (1, 1, 2), (1, 2, 1)}))
+SETS = {"soma": 7, "tetrominoes": 5, "pentominoes": 12, "tetracubes": 8, "tetracubes-two-handed": 7, "pentacubes": 29, "pentacubes-two-handed": 23}
+
+
+def check_kinds(page):
+    """How often a piece is used, its colour, turns and mirror images, each set of pieces, and a grid that grows up to 32 cells each way."""
+    text = page.text()
+    page.type("text", "")
+    page.settled()
+    page.press("newpiece")
+    for place in ((0, 0), (1, 0), (0, 1)):
+        page.cell(*place)
+    for act, name, wanted in KINDS:
+        page.value("(%s, get('%s').dispatchEvent(new Event('change')))" % (act, name))
+        page.settled()
+        need(page.text() == wanted + "\n", "after %s the text is %s" % (act, page.text()))
+    need(page.value("getComputedStyle(document.querySelector('#grid td.filled')).backgroundColor") == "rgb(18, 52, 86)", "the grid hasn't the colour that was chosen")
+    for name, wanted in TURNS:
+        page.press(name)
+        page.settled()
+        cells = {tuple(it) for it in page.value("studio.lines.pieces[0].cells")}
+        need(cells == wanted, "after %s the cells are %s" % (name, cells))
+    page.press("copy")
+    page.settled()
+    need(page.value("get('kin').textContent") == "the same shape as A", "of a copy is said: %s" % page.value("get('kin').textContent"))
+    for name, many in SETS.items():
+        page.type("text", "")
+        page.settled()
+        page.value("(get('sets').value = %s, get('sets').dispatchEvent(new Event('change')))" % json.dumps(name))
+        page.until("studio.lines.pieces.length > 0", "the set %s" % name)
+        page.settled()
+        need(page.value("studio.lines.pieces.length") == many, "the set %s has %s pieces" % (name, page.value("studio.lines.pieces.length")))
+    page.type("text", "piece A 000\nbox 1 1 1\n")
+    page.settled()
+    page.cell(3, 0)
+    page.settled()
+    size = "[get('grid').rows[0].cells.length - 1, get('grid').rows.length - 1, get('layertabs').children.length].join()"
+    need(page.value(size) == "5,4,2", "the grid beyond 4 cells is %s" % page.value(size))
+    page.type("text", "piece A 000\npiece B vvv\nbox 1 1 1\n")
+    page.settled()
+    page.browser.click("#pieces li:nth-child(2) .card")
+    need(page.value(size) == "32,32,32", "the grid of a far cell is %s" % page.value(size))
+    page.layer(31)
+    page.cell(31, 30)
+    page.settled()
+    need("piece B vvv vuv\n" in page.text(), "the far cell is %s" % page.text())
+    page.type("text", text)
+    page.settled()
+    return "kinds, turns and sets of pieces, and a grid of 32 x 32 x 32"
+
+
+def check_closer(page):
+    """All packings, a search step by step, pictures of what is shown, and what the page says of itself."""
+    with open("examples/puzzles/two-dominoes.puzzle", encoding="ascii") as file:
+        text, small = page.text(), file.read()
+    page.type("text", small)
+    page.settled()
+    page.browser.click("[data-kind=all]")
+    page.until("document.body.dataset.search === 'done' && document.body.dataset.found === '4'", "all packings of two dominoes")
+    need(page.value("get('outcome').textContent") == "4 packings: these are all.", "it says: %s" % page.value("get('outcome').textContent"))
+    page.shown("dataset.total === '4'", "4 packings are shown")
+    for kind, begin in (("png", b"\x89PNG"), ("svg", b"<svg")):
+        page.value("get('frame').contentDocument.getElementById(%s).click()" % json.dumps(kind))
+        need(page.saved("." + kind).startswith(begin), "the picture of what is shown is no %s" % kind)
+    page.value("get('manysteps').value = 20")
+    page.press("steps")
+    page.shown("dataset.steps === '21'", "the search step by step")
+    page.press("show")
+    page.shown("dataset.total === '4'", "what was found is shown again")
+    for name in ("sheet", "booklet"):
+        page.press(name)
+        until, found = time.monotonic() + PATIENCE, []
+        while not found and time.monotonic() < until:
+            found = [it["targetId"] for it in page.browser.ask_alone("Target.getTargets")["targetInfos"] if it["type"] == "page" and "/made/" in it["url"]]
+        need(found, "%s opens no page to print" % name)
+        page.browser.ask_alone("Target.closeTarget", targetId=found[0])
+        while any("/made/" in it["url"] and it["type"] == "page" for it in page.browser.ask_alone("Target.getTargets")["targetInfos"]):
+            time.sleep(0.1)
+    said = page.value("document.querySelector('footer').textContent").split()
+    told = subprocess.run([os.path.join(TOP, "polylab"), "--version"], stdout=subprocess.PIPE, text=True, check=True).stdout.split()
+    need("not proved" in " ".join(said) and "Polylab %s, revision %s" % (told[1], told[3]) in " ".join(said), "the page says of itself: %s" % " ".join(said))
+    page.type("text", text)
+    page.settled()
+    return "all packings, step by step, pictures and sheets, and the revision"
+
+
 def check_stopped(page):
     """A long search tells how far it is, is stopped, goes on, and is stopped by another."""
     soma, path = page.text(), "examples/first/bricks-6x6x6.puzzle"
@@ -269,6 +368,12 @@ def check_strange(page):
         page.drop(script)
         page.says(said, "a sentence of %s" % script)
         need(page.text() == text, "after %s the puzzle is another" % script)
+    page.drop("new File(['<puzzle version=\"2\"><gridType type=\"0\"/><shapes><voxel x=\"1\" y=\"1\" z=\"1\">#</voxel></shapes><problems><problem><shapes><shape id=\"0\""
+        " count=\"1\"/></shapes><result id=\"0\"/></problem></problems></puzzle>'], 'one.xmpuzzle')")
+    page.until("get('text').value.endsWith('piece A 000\\nbox 1 1 1\\n') && get('title').value === 'one'", "a file of BurrTools that is dropped")
+    page.settled()
+    page.press("undo")
+    page.until("get('text').value === %s" % json.dumps(text), "the puzzle before it comes back")
     page.drop("new File(['piece A 000 100\\nbox 2 1 1\\n'], 'two.puzzle')")
     page.until("get('text').value === 'piece A 000 100\\nbox 2 1 1\\n' && get('title').value === 'two'", "a text that is dropped")
     page.settled()

@@ -5,7 +5,7 @@
 let DATA = {palette: ["#888888"], distances: [[0]], colours: {}, letters: "A", sets: []};
 // The text; what was read of it, and of which text that was; what is drawn in the editor: the region, or a piece by its entry, which has no line as long
 // as it has no cell.
-const studio = {text: "", told: null, lines: new Lines("", []), chosen: null, past: [], future: [], layer: 0, asking: 0, title: "puzzle"};
+const studio = {text: "", told: null, lines: new Lines("", []), chosen: null, past: [], future: [], layer: 0, asking: 0, answered: 0, title: "puzzle"};
 const NOTHING = {lines: [], faults: [], colours: {}, region: {required: [], optional: []}, numbers: {ways: {}, why: [], notes: [], pieces: [0, 0], region: [0, 0]}};
 
 const ENDED = "The studio that this page belongs to has ended. What you drew is still here: save it, or start the studio again and open it.";
@@ -96,6 +96,7 @@ function soonRead() { clearTimeout(waiting); studio.asking++; waiting = setTimeo
 async function read() {
   const number = studio.asking, {text} = studio, told = await askedFor("read", {text});
   if (number !== studio.asking) return;
+  studio.answered = number;
   take(text, told);
   history.replaceState(null, "", await addressed());
 }
@@ -213,5 +214,5 @@ function note() {
   const {chosen, told, lines} = studio, isRegion = chosen === "region";
   Object.assign(document.body.dataset, {pieces: lines.pieces.length, cells: isRegion ? told.numbers.region[1] : chosen?.cells.length || 0,
     chosen: isRegion ? "region" : chosen?.names || "", layer: studio.layer, faults: told.faults.length, headline: get("headline").textContent,
-    read: lines.text === studio.text ? 1 : 0});
+    read: lines.text === studio.text && studio.answered === studio.asking ? 1 : 0});
 }

@@ -4,6 +4,7 @@ Plain Python, NOT PROVED."""
 import contextlib
 import json
 import os
+import shutil
 import socket
 import subprocess
 import time
@@ -15,6 +16,9 @@ from studio_search import Search
 
 SOMA = "".join("piece %s\n" % it for it in ("V 000 100 010", "L 000 100 200 010", "T 000 100 200 110", "Z 000 100 110 210", "A 000 100 010 011", "B 000 100 010 101",
     "P 000 100 010 001")) + "box 3 3 3\n"
+# A search that nobody waits for.
+with open(os.path.join(TOP, "examples", "first", "bricks-6x6x6.puzzle"), encoding="ascii") as FILE:
+    LONG = FILE.read()
 
 
 def check_door(studio):
@@ -141,14 +145,38 @@ FAILURES = (('[ "$(ulimit -v)" = 300000 ] && exit 4', "ran out of memory: here i
     ("echo nonsense", "is no answer"))
 
 
+def failing(work, way):
+    """A studio whose searches go this way."""
+    path = os.path.join(work, "failing")
+    with open(path, "w", encoding="ascii") as file:
+        file.write(FAILING.replace("MARK", way))
+    os.chmod(path, 0o755)
+    return Studio(os.path.join(work, "fails"), "--memory", "300", POLYLAB=path)
+
+
+def check_killed(work):
+    """A studio that is killed takes its search with it."""
+    # (setpriv, by which a process ends with whoever began it, is in each Debian, and not everywhere)
+    if not shutil.which("setpriv"):
+        return "skipped: a studio that is killed, as there is no setpriv here"
+    studio = failing(work, "exec sleep 1000")
+    studio.post("search", kind="count", text="piece A 000\nbox 1 1 1\n")
+    until = time.monotonic() + PATIENCE
+    while not any(it.startswith("sleep 1000") for it in studio.left()):
+        need(time.monotonic() < until, "the search doesn't begin")
+    studio.process.kill()
+    studio.process.wait()
+    try:
+        studio.is_clean()
+    finally:
+        studio.end()
+    return "a studio that is killed"
+
+
 def check_failures(work):
     """A search that runs out of its memory, that is ended from outside, or of which the program tells nonsense says so."""
-    path = os.path.join(work, "failing")
     for way, said in FAILURES:
-        with open(path, "w", encoding="ascii") as file:
-            file.write(FAILING.replace("MARK", way))
-        os.chmod(path, 0o755)
-        studio = Studio(os.path.join(work, "fails"), "--memory", "300", POLYLAB=path)
+        studio = failing(work, way)
         try:
             line, answer = studio.events()
             studio.post("search", kind="all", text="piece A 000\nbox 1 1 1\n")
@@ -166,12 +194,10 @@ def check_failures(work):
 
 def check_minutes():
     """A search that took its time waits, and goes on when it is told to; meanwhile nothing runs."""
-    with open(os.path.join(TOP, "examples", "first", "bricks-6x6x6.puzzle"), encoding="ascii") as file:
-        long = file.read()
     runs = Runs(2000)
     search, steps = Search(runs, 0.01 / 60), 0
     try:
-        search.begin("count", long)
+        search.begin("count", LONG)
         for _ in range(2):
             search.thread.join(PATIENCE)
             now = search.told()[1]
@@ -201,9 +227,7 @@ def check_search(studio):
     now = waited(answer, "done")
     need((now["found"], now["of"], now["lines"][:2]) == (112, 1792, ["packings 1792", "symmetries 112"]), "%s classes of %s: %s" % (now["found"], now["of"], now["lines"]))
     need(studio.ask("POST", "/%s/solved" % studio.secret, b"{}")[1].endswith(b"symmetries 112\n"), "what is kept has another last line")
-    with open(os.path.join(TOP, "examples", "first", "bricks-6x6x6.puzzle"), encoding="ascii") as file:
-        long = file.read()
-    studio.post("search", kind="count", text=long)
+    studio.post("search", kind="count", text=LONG)
     while not next_told(answer)["steps"]:
         pass
     studio.post("stop")
@@ -216,7 +240,7 @@ def check_search(studio):
     studio.post("search", kind="first", text=SOMA)
     now = waited(answer, "done")
     need((now["kind"], now["found"]) == ("first", 1) and not studio.left(), "two searches at a time: %s, and %s" % (now, studio.left()))
-    studio.post("search", kind="count", text=long)
+    studio.post("search", kind="count", text=LONG)
     while not next_told(answer)["steps"]:
         pass
     answer.close()

@@ -238,6 +238,16 @@ def check_meanwhile(page):
     page.cell(0, 1)
     page.settled()
     need(page.text() == "# two\n# one\npiece A 000 100 200 010\n", "what was undone comes back by drawing: %s" % page.text())
+    # (a window that changes its size draws anew before a text that was opened is read; and a new puzzle may be made of a new one)
+    page.value("(openText('piece B 000\\n', ''), drawEditor(), drawSolid(false))")
+    page.settled()
+    need(page.value("studio.chosen.names") == "B", "of a text that was opened is chosen: %s" % page.value("studio.chosen.names"))
+    for _ in range(2):
+        page.press("fresh")
+        page.settled()
+    page.cell(0, 0)
+    page.settled()
+    need(page.text() == "piece A 000\n", "in a new puzzle a click draws: %s" % page.text())
     page.type("text", text)
     page.settled()
     return "clicks while answers come, and nothing lost by drawing"

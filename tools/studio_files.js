@@ -26,11 +26,12 @@ function setTitle(name) {
 
 // Another puzzle; the one before comes back by Undo.
 function openText(text, name) {
-  studio.chosen = null;
+  // (until the text is read a piece without a name stands for what will be chosen)
+  studio.chosen = text === studio.lines.text ? studio.lines.pieces[0] || newPiece() : {...newPiece(), names: ""};
   studio.layer = 0;
   studio.wanted = "";
   if (name) setTitle(name);
-  setText(text);
+  if (text === studio.text) drawAll(); else setText(text);
 }
 
 // Opens a file: a text or, by the server, what can be made into one.

@@ -20,7 +20,7 @@ STYLE = """
 @page { size: A4; margin: 15mm }
 :root { color-scheme: light }
 body { font: 14px/1.4 system-ui, sans-serif; margin: 15mm auto; max-width: 180mm; color: #1d1d22; background: #fff; print-color-adjust: exact }
-h1 { font-size: 24px; margin: 0 0 2mm } h2 { font-size: 16px; margin: 6mm 0 2mm } p { margin: 1mm 0 }
+h1 { font-size: 24px; margin: 0 0 2mm } h2 { font-size: 16px; margin: 6mm 0 2mm; break-after: avoid } p { margin: 1mm 0 }
 .many { display: flex; flex-wrap: wrap; gap: 5mm; align-items: flex-end }
 figure { margin: 0; break-inside: avoid } figcaption { font-size: 12px; color: #555 }
 .page { break-before: page } .page svg { max-width: 100%; max-height: 250mm; height: auto }

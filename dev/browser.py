@@ -31,7 +31,7 @@ class Browser:
         os.close(read_there)
         os.close(write_there)
         self.into, self.out, self.number, self.session, self.faults = os.fdopen(write_here, "wb"), os.fdopen(read_here, "rb"), 0, None, []
-        self.rest = b""
+        self.rest, self.loads = b"", 0
         target = self.ask("Target.createTarget", url="about:blank")["targetId"]
         self.session = self.ask("Target.attachToTarget", targetId=target, flatten=True)["sessionId"]
         for domain in ("Page", "Runtime"):
@@ -47,6 +47,8 @@ class Browser:
             self.rest += more
         text, self.rest = self.rest.split(b"\0", 1)
         message = json.loads(text)
+        # (it may come before the answer to what loads the page)
+        self.loads += message.get("method") == "Page.loadEventFired"
         if message.get("method") == "Runtime.exceptionThrown":
             details = message["params"]["exceptionDetails"]
             self.faults.append(details.get("exception", {}).get("description", details.get("text")))
@@ -124,9 +126,10 @@ class Browser:
 
     def loaded(self, method, **words):
         """Waits for the page that a command loads; what is asked of the one before meanwhile may never be answered."""
+        before = self.loads
         self.ask(method, **words)
-        while self.told().get("method") != "Page.loadEventFired":
-            pass
+        while self.loads == before:
+            self.told()
 
     def rest_a_while(self):
         """Waits until the page has drawn what it had to, and more finely what has come to rest."""

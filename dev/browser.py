@@ -99,9 +99,22 @@ class Browser:
         self.ask("Input.synthesizeTapGesture", x=x, y=y)
 
     def middle(self, selector):
-        """Where the middle of an element is, which is brought into sight first."""
-        return self.value("(() => { const it = document.querySelector(%s); it.scrollIntoView({block: 'center', behavior: 'instant'}); const box = it.getBoundingClientRect();"
-                          " return [box.left + box.width / 2, box.top + box.height / 2]; })()" % json.dumps(selector))
+        """Where the middle of an element is, which is brought into sight first, once it stays there and nothing else lies on it."""
+        return self.value("""(async () => {
+            const place = () => {
+                const it = document.querySelector(%s);
+                it.scrollIntoView({block: "center", behavior: "instant"});
+                const box = it.getBoundingClientRect(), [x, y] = [box.left + box.width / 2, box.top + box.height / 2], there = document.elementFromPoint(x, y);
+                return [x, y, there !== null && (it.contains(there) || there.contains(it))];
+            };
+            for (let tries = 0; ; tries++) {
+                const [x, y] = place();
+                await new Promise(done => requestAnimationFrame(() => requestAnimationFrame(done)));
+                const [later, lower, isSeen] = place();
+                if (isSeen && later === x && lower === y) return [x, y];
+                if (tries > 1000) throw new Error(%s);
+            }
+        })()""" % (json.dumps(selector), json.dumps("nobody could click %s" % selector)))
 
     def click(self, selector, meanwhile="0"):
         """Clicks the middle of an element; something may happen in the page while the mouse is down."""

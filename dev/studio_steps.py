@@ -168,7 +168,7 @@ def check_kept(page):
     page.press("makesolids")
     need(page.saved(".zip").count(b"piece-V.stl") == 2, "there are no solids")
     page.browser.click("[data-kind=first]")
-    page.until("document.body.dataset.search === 'done'", "a packing")
+    page.until("search.now.kind === 'first' && document.body.dataset.search === 'done'", "a packing")
     page.press("solved")
     need(page.saved(".solved").startswith(b"packing 1\n"), "the packings aren't saved")
     for name in ("sheet", "booklet"):

@@ -96,7 +96,9 @@ class Browser:
     def tap(self, selector):
         """Taps the middle of an element with a finger."""
         x, y = self.middle(selector)
-        self.ask("Input.synthesizeTapGesture", x=x, y=y)
+        # (a gesture that is made of these by the browser itself brings no click in some versions)
+        for kind, points in (("touchStart", [{"x": x, "y": y}]), ("touchEnd", [])):
+            self.ask("Input.dispatchTouchEvent", type=kind, touchPoints=points)
 
     def middle(self, selector):
         """Where the middle of an element is, which is brought into sight first, once it stays there and nothing else lies on it."""

@@ -35,17 +35,17 @@ FIRST = first/bricks-6x6x6
 CHECKS_OF_TEXTS = check-names check-lemmas check-edits check-waiting check-sentences check-ownership check-scripts
 
 .PHONY: all quick help scripts build ci layout wrong-bodies bench install uninstall dist gallery gallery-long $(CHECKS_OF_TEXTS) check-frame check-install \
-	check-dist check-tools check-texts check-refused check-rows check-up-to check-sessions check-parts check-docs check-words check-completions \
+	check-dist check-tools check-texts check-refused check-rows check-up-to check-cache counts check-sessions check-parts check-docs check-words check-completions \
 	check-page check-studio check-statuses check-memory check-memory-all
 
 # All that follows but gallery-long, check-memory-all, bench, ci and wrong-bodies: some ten minutes once the program is built.
-all: $(CHECKS_OF_TEXTS) check-frame check-install check-dist build gallery check-tools check-texts check-refused check-rows check-up-to check-sessions \
+all: $(CHECKS_OF_TEXTS) check-frame check-install check-dist build gallery check-tools check-texts check-refused check-rows check-up-to check-cache counts check-sessions \
 	check-parts check-docs check-words check-completions check-page check-studio check-statuses check-memory
 
 # The checks that a landing has to pass after the gate: some three minutes once the program is built. Without check-edits while records are
 # due of wrong bodies that are tried beside the gate (docs/GATE.md).
-quick: $(filter-out check-edits,$(CHECKS_OF_TEXTS)) check-install build gallery check-refused check-rows check-up-to check-sessions check-docs check-words \
-	check-statuses check-memory
+quick: $(filter-out check-edits,$(CHECKS_OF_TEXTS)) check-install build gallery check-refused check-rows check-up-to check-cache counts check-sessions check-docs \
+	check-words check-statuses check-memory
 
 # This list.
 # (A line `##` is a heading; of the comment above a target the first line is shown.)
@@ -221,6 +221,14 @@ check-rows: build
 # PUZZLES=2000 draws that many.
 check-up-to: build
 	@dev/check_up_to $(PUZZLES)
+
+# Of texts drawn at random the program counts the same with a cache and without: ten seconds.
+check-cache: build
+	@dev/check_cache $(PUZZLES)
+
+# The counts to cite of examples/counts, each in two ways: a minute. With COUNTS=--long all.
+counts: build
+	@dev/counts $(COUNTS)
 
 # Sessions of the debugger are answered as was worked out by hand, and drawn ones, with pools among them, agree: seconds.
 check-sessions: build

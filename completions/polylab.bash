@@ -7,19 +7,19 @@ _polylab() {
         choices="$jobs explain help --help --version"
     else
         case ${COMP_WORDS[1]} in
-            count) choices='--workers --table --classes --up-to --help' ;;
+            count) choices='--workers --table --classes --up-to --cache --help' ;;
             debug) choices='--cover --help' ;;
             explain) choices='--cover --up-to --help' ;;
             resume) choices='--table --steps --list --help' ;;
             solve) choices='--workers --first --table --up-to --help' ;;
-            cover) choices='--workers --count --first --table --help' ;;
+            cover) choices='--workers --count --cache --first --table --help' ;;
             options) choices='--up-to --help' ;;
             help) [ "$COMP_CWORD" -eq 2 ] && choices=$jobs ;;
         esac
         case ${COMP_WORDS[COMP_CWORD - 1]} in
             --table) choices='links bits' ;;
             --up-to) choices='rotations symmetries' ;;
-            --workers | --first | --steps | '<' | '>') choices= ;;
+            --workers | --first | --steps | --cache | '<' | '>') choices= ;;
         esac
         # An option that stands there already is not said again, and after --help nothing is.
         for ((k = 1; k < ${#COMP_WORDS[@]}; k++)); do

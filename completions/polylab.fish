@@ -17,6 +17,7 @@ complete -c polylab -n '__fish_seen_subcommand_from solve count cover' -l worker
 complete -c polylab -n '__fish_seen_subcommand_from solve cover' -l first -x -d 'stop at this one, with one worker'
 complete -c polylab -n '__fish_seen_subcommand_from solve count cover resume' -l table -x -a 'links bits' -d 'the table of the search'
 complete -c polylab -n '__fish_seen_subcommand_from cover' -l count -d 'print no cover, but how many there are'
+complete -c polylab -n '__fish_seen_subcommand_from count cover' -l cache -x -d 'megabytes for counts that are kept'
 complete -c polylab -n '__fish_seen_subcommand_from count' -l classes -d 'count up to rotations and symmetries too'
 complete -c polylab -n '__fish_seen_subcommand_from solve count options explain' -l up-to -x -a 'rotations symmetries' -d 'one of each class'
 complete -c polylab -n '__fish_seen_subcommand_from debug explain' -l cover -d 'the problem is a cover text'

@@ -22,6 +22,7 @@ def main():
     counted = polylab.count(DOMINOES, classes=True)
     assert counted == (4, 8, 55, [1, 4, 4], 1, 1), counted
     assert polylab.count(DOMINOES).symmetries is None
+    assert polylab.count(DOMINOES, cache=1) == polylab.count(DOMINOES)
     for up_to in "rotations", "symmetries":
         counted = polylab.count(DOMINOES, up_to=up_to)
         assert (counted.packings, getattr(counted, up_to)) == (4, 1) and len(polylab.solve(DOMINOES, up_to=up_to)) == 1, counted

@@ -15,7 +15,7 @@ find_files() {
         at=$((at + 1))
         case $dashes:$1 in
             0:--) dashes=$at ;;
-            0:--workers | 0:--first | 0:--table | 0:--steps | 0:--up-to)
+            0:--workers | 0:--first | 0:--table | 0:--steps | 0:--up-to | 0:--cache)
                 # (what follows is the option's number or word, and not a file)
                 [ $# -gt 1 ] || return
                 [ "$1" != --up-to ] || group=$2
@@ -23,7 +23,7 @@ find_files() {
                 shift
                 ;;
             0:--up-to=*) group=${1#*=} ;;
-            0:--workers=* | 0:--first=* | 0:--table=* | 0:--steps=* | 0:--classes | 0:--cover | 0:--list | 0:--count) ;;
+            0:--workers=* | 0:--first=* | 0:--table=* | 0:--steps=* | 0:--cache=* | 0:--classes | 0:--cover | 0:--list | 0:--count) ;;
             0:-?*)
                 [ "$1" = - ] || { files=0; return; }
                 ;;

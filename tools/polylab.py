@@ -2,6 +2,7 @@
 
     import polylab
     polylab.count(text).packings            # a puzzle text; also .options, .steps, .levels, and with classes=True .rotations, .symmetries
+    polylab.count(text, cache=1000)         # what lies below a set of cells is counted once, and its counts kept in 1000 megabytes
     polylab.count(text, up_to="symmetries") # .packings and .symmetries by a search that leaves out what symmetry repeats; or "rotations"
     polylab.solve(text)                     # each packing as a dict from a piece's name to its cells (x, y, z)
     polylab.solve(text, up_to="symmetries") # one packing of each class
@@ -66,10 +67,11 @@ def up_to_words(up_to):
     return ["--up-to", up_to] if up_to else []
 
 
-def count(text, classes=False, workers=1, up_to=None):
-    """The numbers of `polylab count`."""
+def count(text, classes=False, workers=1, up_to=None, cache=None):
+    """The numbers of `polylab count`, by so many workers, or by one with a cache of so many megabytes."""
     found = dict.fromkeys(Count._fields)
-    for line in lines(["count", "--workers", str(workers), *["--classes"] * classes, *up_to_words(up_to)], text):
+    how = ["--cache", str(cache)] if cache else ["--workers", str(workers)]
+    for line in lines(["count", *how, *["--classes"] * classes, *up_to_words(up_to)], text):
         name, *numbers = line.split()
         found[name] = [int(it) for it in numbers] if name == "levels" else int(numbers[0])
     return Count(**found)

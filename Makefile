@@ -226,7 +226,7 @@ check-up-to: build
 check-cache: build
 	@dev/check_cache $(PUZZLES)
 
-# The counts to cite of examples/counts, each in two ways: a minute. With COUNTS=--long all.
+# The counts to cite of examples/counts, each in two ways: a minute. With COUNTS=--long those too that take longer.
 counts: build
 	@dev/counts $(COUNTS)
 

@@ -152,8 +152,9 @@ as with dominoes. One worker keeps these numbers alone. --table TABLE is as with
 With --cache MB one worker searches what lies below a set of pieces and cells
 once, as long as its counts are kept in MB megabytes. What is printed is the
 same, with all digits, and comes much sooner if pieces may be used any number of
-times: the 2444888770250892795802079170816 packings of dominoes in 16 x 16 take
-some seconds. If each piece is used once, it is slower than without.
+times: with --cache 3000 the 2444888770250892795802079170816 packings of
+dominoes in 16 x 16 take some seconds. If each piece is used once, it is slower
+than without.
 
 Exit statuses: 0 done, 2 command line refused, 3 text refused, 4 no memory or
 workers not done, 5 reading or writing failed.",

@@ -66,15 +66,15 @@ low_byte d e = grind (arith, nat_tests)
 
 numeral_bytes : (k n : ℕ) → list_all is_word_byte (numeral_within k n) ≡ true
 numeral_bytes zero n = refl
-numeral_bytes (suc k) n = by (nat_lt n 10) refl
+numeral_bytes (suc k) n = by (nat_lt n 10) refl (numeral_bytes k (n / 10))
   where
     last : nat_lt (n % 10) 10 ≡ true
     last = grind (arith, nat_tests)
 
-    by : (v : Bool) → nat_lt n 10 ≡ v → list_all is_word_byte (cond v ((48 + n) ∷ []) (numeral_within k (n / 10) ++ (48 + n % 10) ∷ [])) ≡ true
-    by true e = and_from (is_word_byte (48 + n)) true (low_byte n e) refl
-    by false e =
-        all_both is_word_byte (numeral_within k (n / 10)) ((48 + n % 10) ∷ []) (numeral_bytes k (n / 10))
+    by : (v : Bool) → nat_lt n 10 ≡ v → list_all is_word_byte (numeral_within k (n / 10)) ≡ true → list_all is_word_byte (cond v ((48 + n) ∷ []) (numeral_within k (n / 10) ++ (48 + n % 10) ∷ [])) ≡ true
+    by true e front = and_from (is_word_byte (48 + n)) true (low_byte n e) refl
+    by false e front =
+        all_both is_word_byte (numeral_within k (n / 10)) ((48 + n % 10) ∷ []) front
         (and_from (is_word_byte (48 + n % 10)) true (low_byte (n % 10) last) refl)
 
 push_some : (bytes : List ℕ) (byte : ℕ) → has_bytes (bytes ++ byte ∷ []) ≡ true

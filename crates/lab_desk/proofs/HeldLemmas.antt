@@ -30,9 +30,6 @@ among gs g = list_any (λ (h : Grant). is_one h g) gs
 
 -- ---- leases in a list
 
-itself : (g : Grant) → is_one g g ≡ true
-itself g = grind (arith, nat_tests)
-
 equal_to : (g h : Grant) → is_one g h ≡ true → g ≡ h
 equal_to g h e =
     let id : g.id ≡ h.id = grind (arith, nat_tests) in

@@ -1,7 +1,7 @@
 //! A desk to which memory is refused: blank and book come back, the book as it was, and the same desk is made of them then. And a pool
 //! to which it is refused: it hands out its book, with no tile leased, and the rest is searched then.
 //! `dev/check_memory` runs these tests with one growth refused, each growth in turn.
-ghost use Rattle.std.specs.Prelude.{◌≡◌};
+ghost use Rattle.std.specs.Prelude.{◌≡◌, IfSome};
 
 use crate::books::{Start, begins_with, book_of, has_counts};
 use crate::desks::has_number;
@@ -11,12 +11,11 @@ use cover_problem::{Problem, read_cover};
 use drawn_books::has_tiles;
 use drawn_problems::SMALL;
 use lab_book::Book;
-use lab_desk::{Desk, Desking, Seat};
+use lab_desk::{Blank, Desk, Desking, Seat};
 use lab_pool::{NoGate, PoolFault, run_pool};
 use std::alloc::Global;
 use std::marker::Brand;
 use std::sync::Wait;
-use std::sync::ledger::Blank;
 use std::test::Fail;
 use std::thread::Threads;
 use x_steps::Refused;
@@ -75,14 +74,14 @@ fn is_made<'p, L: Desking>(made: Result<(Desk<'p, L>, Vec<Seat<L>>), (Blank, Boo
     }
 }
 
-/// Whether a desk of this ledger is made of a book, on a second try where the first is refused.
+/// Whether a desk of this name is made of a book, on a second try where the first is refused.
 fn is_made_again<'p, L: Desking>(
     alloc: Global,
     blank: Blank,
     book: Book<'p>,
     copy: &Book<'p>,
 ) -> bool
-    requires name { blank.name ≡ L.name }
+    requires name { blank.name ≡ L.table }
     requires parts { (blank.parts ≡ L.parts) × (blank.parts ≡ 2) }
     requires opening { book.history ≡ L.opening }
     requires whole { book.problem ≡ L.whole }
@@ -98,9 +97,22 @@ fn is_made_again<'p, L: Desking>(
     }
 }
 
+/// A blank for two seats, on a second try where the first is refused.
+fn blank_of_two(alloc: Global) -> Option<Blank>
+    ensures { IfSome result (λ b. b.parts ≡ 2) }
+{
+    match Blank::new(alloc, 2) {
+        Ok(blank) => Some(blank),
+        Err(_) => Blank::new(alloc, 2).ok(),
+    }
+}
+
 /// The same of a desk of two seats.
 fn is_desk_made<'p>(alloc: Global, book: Book<'p>, copy: &Book<'p>) -> bool {
-    is_made_again::<Brand>(alloc, Blank::new(2), book, copy)
+    match blank_of_two(alloc) {
+        Some(blank) => is_made_again::<Brand>(alloc, blank, book, copy),
+        None => false,
+    }
 }
 
 /// How a test of such a desk ends, behind one growth.

@@ -8,10 +8,11 @@ ghost use Rattle.cover_problem.specs.Covering.{active, choice, list_of};
 ghost use Rattle.cover_bits.specs.Parts.{words_for, in_row};
 ghost use Rattle.cover_bits.specs.Bits.{AreLeftBut, IsListOf};
 
+use crate::active::{activate, deactivate, place_of, time_of};
 use crate::lists::ItemList;
 use crate::making::{add_below, empty_row, fill, note_all};
 use crate::passes::{row, set, write_sets};
-use crate::sets::{Part, add, first_in, has, remove, words_for};
+use crate::sets::{Part, first_in, words_for};
 use crate::walk::{take_next, whole};
 use cover_problem::{Problem, Table, push_within};
 use std::alloc::{AllocError, Global};
@@ -60,34 +61,6 @@ impl Model for BitTable {
         a.bases.items a.active.items a.covered.items (vec_capacity a.covered) };
 }
 
-/// Takes an item out of the active ones. A secondary item never stands there.
-#[inline(always)]
-fn deactivate(active: &mut [u64], primary: u32, item: u32)
-    requires some { 0 < item }
-    requires room { primary ≤ 64 * length active.old }
-    ensures long { length active.new ≡ length active.old }
-    ensures removed { item ≤ primary → (k : ℕ) → in_row active.new k ≡ (in_row active.old k && not (k == item - 1)) }
-    ensures kept { primary < item → active.new ≡ active.old }
-{
-    if item <= primary {
-        remove(active, (item - 1) as usize);
-    }
-}
-
-/// Puts it back among the active ones. A secondary item never stands there.
-#[inline(always)]
-fn activate(active: &mut [u64], primary: u32, item: u32)
-    requires some { 0 < item }
-    requires room { primary ≤ 64 * length active.old }
-    ensures long { length active.new ≡ length active.old }
-    ensures added { item ≤ primary → (k : ℕ) → in_row active.new k ≡ (in_row active.old k || (k == item - 1)) }
-    ensures kept { primary < item → active.new ≡ active.old }
-{
-    if item <= primary {
-        add(active, (item - 1) as usize);
-    }
-}
-
 /// The number after one that is counted from 0.
 #[inline(always)]
 fn after(number: Option<u32>) -> Option<u32>
@@ -98,54 +71,6 @@ fn after(number: Option<u32>) -> Option<u32>
     match number {
         Some(number) => Some(number + 1),
         None => None,
-    }
-}
-
-/// The place of an item in a list, or the list's length.
-#[inline(always)]
-fn place_of(items: &[u32], item: u32) -> usize
-    ensures { result ≡ position_or_len (λ x. x == item) items.now }
-{
-    items.iter().take_while(|x| **x != item).count()
-}
-
-/// Whether an item is active. A secondary item never is.
-#[inline(always)]
-fn is_active(active: &[u64], primary: u32, item: u32) -> bool
-    requires some { 0 < item }
-    requires room { primary ≤ 64 * length active.now }
-    ensures { IsTrue result ↔ ((item ≤ primary) × (in_row active.now (item - 1) ≡ true)) }
-{
-    item <= primary && has(active, (item - 1) as usize)
-}
-
-/// The place of an item in the list of covered items, or the list's length. What is active isn't covered, so the list is gone through
-/// for others alone.
-#[inline(always)]
-fn place_among(covered: &[u32], active: &[u64], primary: u32, item: u32) -> usize
-    requires some { 0 < item }
-    requires room { primary ≤ 64 * length active.now }
-    requires uncovered { item ≤ primary → in_row active.now (item - 1) ≡ true → members.has covered.now item ≡ false }
-    ensures { result ≡ position_or_len (λ x. x == item) covered.now }
-{
-    if is_active(active, primary, item) {
-        return covered.len();
-    }
-    place_of(covered, item)
-}
-
-/// How many items were covered before one. A search asks for the item that was covered last.
-#[inline(always)]
-fn time_of(covered: &[u32], active: &[u64], primary: u32, item: u32) -> usize
-    requires distinct { are_distinct covered.now ≡ true }
-    requires some { 0 < item }
-    requires room { primary ≤ 64 * length active.now }
-    requires uncovered { item ≤ primary → in_row active.now (item - 1) ≡ true → members.has covered.now item ≡ false }
-    ensures { result ≡ position_or_len (λ x. x == item) covered.now }
-{
-    match covered.split_last() {
-        Some((last, before)) if *last == item => before.len(),
-        _ => place_among(covered, active, primary, item),
     }
 }
 

@@ -131,7 +131,8 @@ static ROWS: [Row; 20] = [
 ];
 
 const SOMA: &[u8] =
-    b"piece V 000 100 010\npiece L 000 100 200 010\npiece T 000 100 200 110\npiece Z 000 100 110 210\npiece A 000 100 010 101\npiece B 000 100 010 011\npiece P 000 100 010 001\nbox 3 3 3\n";
+    b"piece V 000 100 010\npiece L 000 100 200 010\npiece T 000 100 200 110\npiece Z 000 100 110 210\n\
+        piece A 000 100 010 101\npiece B 000 100 010 011\npiece P 000 100 010 001\nbox 3 3 3\n";
 
 /// The anchor with this name.
 fn piece_named(puzzle: &Puzzle, symbol: u8) -> Result<Anchor, Fail> {

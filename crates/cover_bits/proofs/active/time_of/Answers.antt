@@ -1,6 +1,6 @@
 use Rattle.std.proofs.Common.{◌++◌, ◌∷◌, [], ap, ◌∙◌}
 use Rattle.cover_bits.proofs.TableLemmas.{last_place}
-use Rattle.cover_bits.proofs.table.time_of.Goals as goal
+use Rattle.cover_bits.proofs.active.time_of.Goals as goal
 
 pub returns-in-Some : goal.returns-in-Some
 returns-in-Some c =

@@ -1,6 +1,6 @@
 use Rattle.std.proofs.Common.{refl}
 use Rattle.cover_bits.proofs.TableLemmas.{time_past}
-use Rattle.cover_bits.proofs.table.place_among.Goals as goal
+use Rattle.cover_bits.proofs.active.place_among.Goals as goal
 
 pub returns-then-is_active : goal.returns-then-is_active
 returns-then-is_active c =

@@ -4,7 +4,6 @@ use Rattle.std.proofs.lemmas.Option.{same_Some}
 use Rattle.cover_problem.specs.Problem.{ProblemValue}
 use Rattle.cover_problem.specs.declared.fault.Refused.{Refused}
 use Rattle.x_steps.specs.StateValue.{StateValue, start}
-use Rattle.x_branches.specs.declared.branch.Branch.{Branch}
 use Rattle.x_branches.specs.Branch.{whole_run}
 use Rattle.x_branches.specs.Cut.{CutPath}
 use Rattle.x_branches.specs.Stretch.{StretchValue}
@@ -16,14 +15,10 @@ use Rattle.lab_history.specs.declared.grant.Grant.{Grant}
 use Rattle.lab_history.specs.declared.entry.Call.TheVariants as call
 use Rattle.lab_history.specs.declared.entry.Reply.TheVariants as reply
 use Rattle.lab_history.specs.declared.entry.Entry.{Entry}
-use Rattle.lab_book.specs.Book.{BookValue}
-use Rattle.lab_book.specs.Calls.{is_current}
-use Rattle.lab_history.specs.EntryCode.{entry_of, call_of, call_rest, reply_of}
-use Rattle.lab_desk.specs.declared.seat.Noted.{Noted}
-use Rattle.lab_desk.specs.Record.{SeatValue, noted, note_of, call_entry, notes_of, TellsEntry, KeepsRoomFor, Notes, NotesRefusal}
+use Rattle.lab_desk.specs.Record.{SeatValue, noted, call_entry, notes_of, shifted, holds, kept_from, KeepsRoomFor, Notes, NotesRefusal}
 use Rattle.lab_desk.specs.Record.{NotesLease, NotesAnyLease, NotesDone, NotesFault, NotesRefused, NotesPost, NotesPostFault, NotesSplit}
-use Rattle.lab_desk.specs.Record.{NotesSplitFault, NotesRetract}
-use Rattle.lab_desk.specs.Seats.{HaveAllNumbers, are_of_workers, AreRecordsFrom, AreRecordsAfter, IsFinishedBy, IsDeskBook, LacksRoom, IsFinishFault}
+use Rattle.lab_desk.specs.Record.{NotesSplitFault, NotesRetract, HoldsLease, HoldsAnyLease, HoldsOthers}
+use Rattle.lab_desk.specs.Seats.{HaveAllNumbers, AreAllSeats, AllStand, are_of_workers, AreRecordsFrom, AreRecordsAfter}
 
 -- worker 0's lease of the whole run
 abbrev lease : Grant
@@ -46,10 +41,23 @@ entries = zero_leases ∷ one_gets_none ∷ zero_parks ∷ []
 notes_of_zero : notes_of 0 0 entries ≡ noted 0 zero_leases ∷ noted 2 zero_parks ∷ []
 notes_of_zero = refl
 
--- the index 1, worker 1, the call LeaseAny, and the reply NoneWaits
-told : note_of (1 ∷ 1 ∷ 1 ∷ 1 ∷ []) ≡ noted 1 one_gets_none
-unfolding entry_of call_of call_rest reply_of
-told = refl
+-- counted from the entry 1 on, the second entry is the first
+counted_from : shifted 1 (notes_of 1 0 (one_gets_none ∷ [])) ≡ noted 1 one_gets_none ∷ []
+counted_from = refl
+
+-- after the first entry it holds the lease, and after its park none
+held_first : holds (noted 0 zero_leases ∷ []) lease ≡ true
+held_first = refl
+
+held_then : holds (notes_of 0 0 entries) lease ≡ false
+held_then = refl
+
+count_first : kept_from 0 (noted 0 zero_leases ∷ []) ≡ 1
+count_first = refl
+
+-- and never one of another index
+held_other : holds (noted 0 zero_leases ∷ []) (record lease { index = 1 }) ≡ false
+held_other = refl
 
 -- ---- specs/Seats.antt
 
@@ -76,16 +84,6 @@ all_noted = record { number = 0; notes = noted 0 zero_leases ∷ noted 2 zero_pa
 abbrev last_noted : SeatValue
 last_noted = record { number = 0; notes = noted 2 zero_parks ∷ []; kept = 0 }
 
-tells_lease : TellsEntry all_noted.notes 0 entries 0
-tells_lease = refl
-
--- its second note isn't of the entry 1, and one at the next index isn't of the entry 0
-not_of_one : ¬ TellsEntry all_noted.notes 1 entries 1
-not_of_one e = let h = ap (λ (n : Noted). n.index) (same_Some (noted 2 zero_parks) (noted 1 one_gets_none) e) in omega (arith, h)
-
-not_at_one : ¬ TellsEntry (noted 1 zero_leases ∷ []) 0 entries 0
-not_at_one e = let h = ap (λ (n : Noted). n.index) (same_Some (noted 1 zero_leases) (noted 0 zero_leases) e) in omega (arith, h)
-
 -- from the entry 1 on the history has one entry of the worker, and from the entry 0 on it has two
 records_from_one : AreRecordsFrom 1 entries (last_noted ∷ [])
 records_from_one zero s e = let same = same_Some last_noted s e in subst (λ (t : SeatValue). t.notes ≡ notes_of t.number 1 (one_gets_none ∷ zero_parks ∷ [])) same refl
@@ -97,24 +95,13 @@ none_is_missing r = let h = ap length (r 0 last_noted refl) in omega (arith, h)
 none_is_too_many : ¬ AreRecordsAfter (zero_leases ∷ []) entries (all_noted ∷ [])
 none_is_too_many r = let h = ap length (r 0 all_noted refl) in omega (arith, h)
 
--- one seat doesn't finish a desk of two, nor of one where worker 1 has an entry
-not_by_half : ¬ IsFinishedBy 2 0 entries (all_noted ∷ [])
+-- one seat isn't all of two
+not_by_half : ¬ AreAllSeats 2 (all_noted ∷ [])
 not_by_half f = let h = f.count in omega (arith, h)
 
-not_without_one : ¬ IsFinishedBy 1 0 entries (all_noted ∷ [])
-not_without_one f = let h = f.workers in absurd (cc)
-
--- memory may be refused to the end of a lease only where no room for it is left
-has_room : (b : BookValue) → is_current b.tiles lease ≡ true → ¬ LacksRoom (record (seat 0) { kept = 1 }) lease b
-has_room b is h = let e : 1 ≡ 0 = h is in omega (arith, e)
-
-another_fault : ¬ IsFinishFault NotWaiting
-another_fault (inl e) = absurd (cc)
-another_fault (inr e) = absurd (cc)
-
--- what is true of no book is true of none under a lock
-not_of_a_book : (p : ProblemValue) (b : Branch) (s : StateValue) → ¬ IsDeskBook p b s [] (λ book. ⊥)
-not_of_a_book p b s d = d.5
+-- where there is no tile, no lease stands
+none_stands : ¬ AllStand [] (zero_leases ∷ []) []
+none_stands h = let e : false ≡ true = h lease refl in absurd (cc)
 
 -- ---- what a call notes
 
@@ -173,9 +160,23 @@ split_fault_is_noted p c (i, inr q) = let h = ap length q.1 in omega (arith, h)
 retract_is_noted : (x : StretchValue) → ¬ NotesRetract {E = ℕ} idle idle lease (Ok x)
 retract_is_noted x e = let h = ap length e.1 in omega (arith, h)
 
--- room for one note more is kept with a lease, and none where none waits
-room_is_kept : ¬ KeepsRoomFor {A = ℕ} (Some 5) idle idle
-room_is_kept e = omega (arith, e)
+-- one lease more is counted where one was given, and none where none waits
+one_is_counted : ¬ KeepsRoomFor {A = ℕ} (Some 5) idle idle
+one_is_counted e = omega (arith, e)
 
-no_room_is_kept : ¬ KeepsRoomFor {A = ℕ} None idle (record idle { kept = 1 })
-no_room_is_kept e = omega (arith, e)
+none_is_counted : ¬ KeepsRoomFor {A = ℕ} None idle (record idle { kept = 1 })
+none_is_counted e = omega (arith, e)
+
+-- a lease that was given is held, and one that was parked isn't
+lease_is_held : (s : StateValue) → ¬ HoldsLease {E = ℕ} idle idle (Ok (leased s))
+lease_is_held s h = let e = ap length h.0 in omega (arith, e)
+
+any_lease_is_held : (s : StateValue) → ¬ HoldsAnyLease {E = ℕ} idle idle (Ok (Some (leased s)))
+any_lease_is_held s h = let e = ap length h.0 in omega (arith, e)
+
+-- a seat that was leased the whole run
+abbrev holding : SeatValue
+holding = record { number = 0; notes = noted 0 zero_leases ∷ []; kept = 1 }
+
+end_is_held : ¬ HoldsOthers {X = ℕ} {E = ℕ} holding holding lease (Ok 0)
+end_is_held h = let e = ap length h.0 in omega (arith, e)

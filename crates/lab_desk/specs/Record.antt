@@ -1,17 +1,16 @@
--- What a seat notes of its calls: a note (`noted`), and the one that a row of numbers tells (`note_of`); a seat and its notes (`SeatValue`,
--- `SheetValue`); the notes that a history has for a worker (`notes_of`); and that one call more is noted (`Notes`, `NotesRefusal`),
--- at the index that its entry has in the history.
+-- What is noted at a seat of its calls: a note (`noted`), a seat and its notes (`SeatValue`); the notes that a history has for a worker
+-- (`notes_of`); the leases that notes leave open (`held_in`, `holds`); and that one call more is noted (`Notes`, `NotesRefusal`), at the index
+-- that its entry has in the history.
 --
--- Example: worker 0 leases, then worker 1, for whom none waits, and then worker 0 parks: the notes of worker 0 are the entries 0 and 2. The
--- numbers 1 1 1 1 tell the note of entry 1. proofs/DeskExamples.antt computes it.
-use Rattle.std.specs.Prelude.{◌≡◌, ◌<◌, ℕ, ◌+◌, ◌-◌, ◌==◌, ◌⊎◌, Bool, true, false, List, [], ◌∷◌, ◌++◌, cond, drop, map, slice_index, slice_get, option_map}
-use Rattle.std.specs.Prelude.{Option, Some, None, MatchOption, Result, IfOk, IfErr, OnOk, IsTrue, ◌↔◌}
-use Rattle.std.specs.List.{All}
+-- Example: worker 0 leases, then worker 1, for whom none waits, and then worker 0 parks: the notes of worker 0 are the entries 0 and 2. After
+-- the first it holds that lease, and after the second none. proofs/DeskExamples.antt computes it.
+use Rattle.std.specs.Prelude.{◌≡◌, ℕ, ◌+◌, ◌-◌, ◌==◌, ◌&&◌, ◌⊎◌, Bool, not, true, false, List, [], ◌∷◌, ◌++◌, cond, map}
+use Rattle.std.specs.Prelude.{Option, MatchOption, Result, IfOk, IfErr, OnOk, OnErr}
+use Rattle.std.specs.List.{filter, list_any}
 use Rattle.cover_problem.specs.Problem.{ProblemValue}
 use Rattle.cover_problem.specs.declared.fault.Refused.{Refused}
 use Rattle.x_branches.specs.Cut.{CutPath}
 use Rattle.x_branches.specs.Stretch.{StretchValue}
-use Rattle.lab_history.specs.EntryCode.{entry_of, entry_code}
 use Rattle.lab_book.specs.Calls.{post_of, split_of, posted_reply, leased_reply}
 use Rattle.lab_history.specs.declared.grant.Grant.{Grant}
 use Rattle.lab_book.specs.declared.lease.Posted.{Posted}
@@ -29,43 +28,11 @@ use Rattle.lab_desk.specs.declared.seat.Noted.{Noted}
 abbrev pub noted : ℕ → Entry → Noted
 noted i e = record { index = i; entry = e }
 
--- the note that a row of numbers tells: its first number is the index, the others tell the entry
-abbrev pub note_of : List ℕ → Noted
-note_of ns = noted (slice_index ns 0) (entry_of (drop 1 ns))
-
--- the numbers of a note
-abbrev pub note_code : Noted → List ℕ
-note_code n = n.index ∷ entry_code n.entry
-
--- the numbers of a row are those of the note that they tell: it is written in this way alone
-abbrev pub IsNoteCode : List ℕ → Type 0
-IsNoteCode ns = ns ≡ note_code (note_of ns)
-
--- a row has the numbers of a note, and tells it
-pub record IsRowOf (ns : List ℕ) (n : Noted) : Type 0 where
-  pub tells : note_of ns ≡ n
-  pub code : ns ≡ note_code n
-
--- each packed row is that of a note
-abbrev pub AreNoteCodes : List (List ℕ) → Type 0
-AreNoteCodes rows = All IsNoteCode rows
-
--- all notes: those that are packed into rows, and then the last ones
-abbrev pub all_notes : List (List ℕ) → List Noted → List Noted
-all_notes rows last = map note_of rows ++ last
-
--- a seat: its number, the notes of the calls made there, and for how many more room is kept: one for each lease that the seat
--- was given and has not ended
+-- a seat: its number, the notes of the calls made there, and how many leases were given to it and have not ended, each end counted
 pub record SeatValue : Type 0 where
   pub number : ℕ
   pub notes : List Noted
   pub kept : ℕ
-
--- notes, for how many more room is kept, and the note that is in hand
-pub record SheetValue : Type 0 where
-  pub list : List Noted
-  pub kept : ℕ
-  pub next : Option Noted
 
 -- whether a call ends a lease
 abbrev pub ends_lease : Call → Bool
@@ -74,44 +41,51 @@ ends_lease (call.Abandon g) = true
 ends_lease (call.Close g) = true
 ends_lease c = false
 
--- an entry tells that a lease has ended
-pub record EndsLease (e : Entry) : Type 0 where
-  pub ends : ends_lease e.call ≡ true
-  pub done : e.reply ≡ reply.Done
-
--- for how many notes room is kept once a call was answered so, of so many before: one more where a lease was given, and one fewer where
--- one ended
+-- how many are counted once a call was answered so, of so many before: one more where a lease was given, and one fewer where one ended
 abbrev pub kept_by : ℕ → Call → Reply → ℕ
 kept_by k c (reply.Leased g lo hi mark n) = k + 1
 kept_by k c reply.Done = cond (ends_lease c) (k - 1) k
 kept_by k c r = k
 
--- and once this entry is noted
-abbrev pub kept_after : ℕ → Entry → ℕ
-kept_after k e = kept_by k e.call e.reply
+-- and once these notes are added
+abbrev pub kept_from : ℕ → List Noted → ℕ
+kept_from k [] = k
+kept_from k (n ∷ ns) = kept_from (kept_by k n.entry.call n.entry.reply) ns
 
--- the entry with an index is noted, where none is in hand
-abbrev pub SheetNotes : SheetValue → ℕ → Entry → SheetValue → Type 0
-SheetNotes old i e new = new ≡ record { list = old.list ++ noted i e ∷ []; kept = kept_after old.kept e; next = None }
+-- whether two leases are one
+abbrev pub is_one : Grant → Grant → Bool
+is_one g h = (g.id == h.id) && ((g.worker == h.worker) && (g.index == h.index))
 
--- the entry with an index is in hand, where none was
-pub record SheetKeeps (old : SheetValue) (i : ℕ) (e : Entry) (new : SheetValue) : Type 0 where
-  pub free : old.next ≡ None
-  pub next : new ≡ record old { next = Some (noted i e) }
+-- these leases without this one
+abbrev pub leases_without : Grant → List Grant → List Grant
+leases_without g gs = filter (λ (h : Grant). not (is_one h g)) gs
 
--- there is room for an entry: it ends a lease, whose end room is kept for
-pub record SheetReady (s : SheetValue) (e : Entry) : Type 0 where
-  pub end : EndsLease e
-  pub some : 0 < s.kept
-  pub free : s.next ≡ None
+-- the leases that are left of these once a call is done
+abbrev pub leases_left : Call → List Grant → List Grant
+leases_left (call.Park g) gs = leases_without g gs
+leases_left (call.Abandon g) gs = leases_without g gs
+leases_left (call.Close g) gs = leases_without g gs
+leases_left c gs = gs
 
--- a note is of the entry with an index in a history
-abbrev pub IsNoteOf : Noted → List Entry → ℕ → Type 0
-IsNoteOf note history i = Some note ≡ option_map (noted i) (slice_get history i)
+-- the leases that a worker has once its call was answered so, of these before: one more where a lease was given, and without the one that
+-- ended
+abbrev pub held_by : List Grant → Call → Reply → List Grant
+held_by gs c (reply.Leased g lo hi mark n) = g ∷ gs
+held_by gs c reply.Done = leases_left c gs
+held_by gs c r = gs
 
--- the note at a place is of the entry with an index in a history
-abbrev pub TellsEntry : List Noted → ℕ → List Entry → ℕ → Type 0
-TellsEntry notes place history i = slice_get notes place ≡ option_map (noted i) (slice_get history i)
+-- and once these notes are added
+abbrev pub held_from : List Grant → List Noted → List Grant
+held_from gs [] = gs
+held_from gs (n ∷ ns) = held_from (held_by gs n.entry.call n.entry.reply) ns
+
+-- the leases that notes leave open
+abbrev pub held_in : List Noted → List Grant
+held_in ns = held_from [] ns
+
+-- whether notes leave a lease open: it was given to them, and hasn't ended
+abbrev pub holds : List Noted → Grant → Bool
+holds ns g = list_any (λ (h : Grant). is_one h g) (held_in ns)
 
 -- the entry of a call
 abbrev pub call_entry : ℕ → Call → Reply → Entry
@@ -122,9 +96,9 @@ abbrev pub notes_of : ℕ → ℕ → List Entry → List Noted
 notes_of k i [] = []
 notes_of k i (e ∷ es) = cond (e.worker == k) (noted i e ∷ []) [] ++ notes_of k (i + 1) es
 
--- the entries of a worker in a history, from an index on, with their indexes
-abbrev pub notes_from : ℕ → ℕ → List Entry → List Noted
-notes_from k from history = notes_of k from (drop from history)
+-- notes whose indexes are counted from another place
+abbrev pub shifted : ℕ → List Noted → List Noted
+shifted from ns = map (λ (n : Noted). noted (n.index + from) n.entry) ns
 
 -- one call more of a worker is noted, at the index that its entry has, with what it was answered
 abbrev pub Notes : ℕ → List Noted → List Noted → ℕ → Call → Reply → Type 0
@@ -137,10 +111,6 @@ NotesRefusal i old new w c f = ((f ≡ OutOfMemory) × (new ≡ old)) ⊎ ((f �
 -- at some index: that of the entry, in a history that stands under a lock
 abbrev pub AtSomeIndex : (ℕ → Type 0) → Type 0
 AtSomeIndex P = (i : ℕ) × P i
-
--- a refusal has an entry in the history: any has but that memory ran out
-abbrev pub HasEntry : BookFault → Type 0
-HasEntry f = f ≡ OutOfMemory → ⊥
 
 -- ---- what is noted at a seat, by what a call returned
 
@@ -192,10 +162,22 @@ NotesSplitFault p old new g cut result = NotesRefused old new (split_of p g cut)
 abbrev pub NotesRetract : {E : Type 0} → SeatValue → SeatValue → Grant → Result StretchValue E → Type 0
 NotesRetract old new g result = NotesAnswer old new (call.Retract g) (λ (x : StretchValue). reply.Retracted x.from x.to) result
 
--- room is kept for one note more where there is such a thing, and else for as many as before
+-- one is counted more where there is such a thing, and else as many as before
 abbrev pub KeepsRoomFor : {A : Type 0} → Option A → SeatValue → SeatValue → Type 0
 KeepsRoomFor o old new = MatchOption o (new.kept ≡ old.kept) (λ _. new.kept ≡ old.kept + 1)
 
--- an answer tells whether this is so, unless it is an error
-abbrev pub TellsWhether : {E : Type 0} → Result Bool E → Type 0 → Type 0
-TellsWhether result P = IfOk result (λ told. IsTrue told ↔ P)
+-- a lease that was given is held, and those from before; where a call was refused, none more
+abbrev pub HoldsLease : {E : Type 0} → SeatValue → SeatValue → Result Leased E → Type 0
+HoldsLease old new result = IfOk result (λ r. held_in new.notes ≡ r.lease ∷ held_in old.notes) × OnErr result (held_in new.notes ≡ held_in old.notes)
+
+-- the same where there may be none
+abbrev pub HoldsAnyLease : {E : Type 0} → SeatValue → SeatValue → Result (Option Leased) E → Type 0
+HoldsAnyLease old new result =
+    IfOk result (λ o. MatchOption o (held_in new.notes ≡ held_in old.notes) (λ r. held_in new.notes ≡ r.lease ∷ held_in old.notes))
+    × OnErr result (held_in new.notes ≡ held_in old.notes)
+
+-- where a call ended a lease, the others are held, and else all that were
+abbrev pub HoldsOthers : {X E : Type 0} → SeatValue → SeatValue → Grant → Result X E → Type 0
+HoldsOthers old new g result =
+    OnOk result (held_in new.notes ≡ leases_without g (held_in old.notes))
+    × OnErr result (held_in new.notes ≡ held_in old.notes)

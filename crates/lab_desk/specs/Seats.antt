@@ -1,27 +1,24 @@
 -- Desks (`DeskValue`), and what the notes of their seats say of a history: seats as they are made (`AreNewSeats`), that each number is one
 -- seat's (`HaveAllNumbers`), that their notes are a history's entries (`AreRecords`), and whether these are of so many workers
--- (`are_of_workers`). When a call may be refused for want of memory (`LacksRoom`), and a desk not be finished (`IsFinishFault`).
+-- (`are_of_workers`). What a desk is made of (`BlankValue`), and that the leases which a history leaves to its workers are current
+-- (`AllStand`).
 --
 -- Example: the seats 1 and 0 have all numbers below 2. Entries of the workers 0 and 1 are of workers below 2, and not below 1.
 -- proofs/DeskExamples.antt computes it.
-use Rattle.std.specs.Prelude.{◌≡◌, ◌⊎◌, ◌<◌, ◌==◌, ℕ, nat_lt, Bool, List, [], slice_get, count_by, take, drop, length, true, Some}
+use Rattle.std.specs.Prelude.{◌≡◌, ◌<◌, ◌==◌, ℕ, nat_lt, Bool, List, [], slice_get, count_by, drop, length, true, Some}
 use Rattle.std.specs.List.{list_all}
-use Rattle.cover_problem.specs.Problem.{ProblemValue}
-use Rattle.x_steps.specs.StateValue.{StateValue}
-use Rattle.x_branches.specs.declared.branch.Branch.{Branch}
-use Rattle.lab_book.specs.Book.{BookValue}
 use Rattle.lab_book.specs.Calls.{is_current}
 use Rattle.lab_history.specs.declared.grant.Grant.{Grant}
-use Rattle.lab_history.specs.declared.fault.BookFault.{BookFault}
-use Rattle.lab_history.specs.declared.fault.BookFault.TheVariants.{OutOfMemory, SeatMismatch}
 use Rattle.lab_history.specs.declared.entry.Entry.{Entry}
-use Rattle.lab_desk.specs.Record.{SeatValue, notes_of}
+use Rattle.atomic_table.specs.Seated.{TableId}
+use Rattle.lab_book.specs.Tile.{TileValue}
+use Rattle.lab_desk.specs.Record.{SeatValue, notes_of, holds}
 
 -- a desk, as its callers know it: how many seats it has
 pub record DeskValue : Type 0 where
   pub seats : ℕ
 
--- seats as a desk makes them: each has its place's number, no note, and no room kept
+-- seats as a desk makes them: each has its place's number, no note, and no lease
 abbrev pub AreNewSeats : List SeatValue → Type 0
 AreNewSeats seats = (k : ℕ) (s : SeatValue) → slice_get seats k ≡ Some s → s ≡ record { number = k; notes = []; kept = 0 }
 
@@ -53,27 +50,20 @@ are_of_workers n entries = list_all (λ (e : Entry). nat_lt e.worker n) entries
 abbrev pub AreOfWorkers : ℕ → ℕ → List Entry → Type 0
 AreOfWorkers from n history = are_of_workers n (drop from history) ≡ true
 
--- these are all of so many seats, their notes are the entries of a history from an index on, and no other worker has an entry there
-pub record IsFinishedBy (n from : ℕ) (history : List Entry) (seats : List SeatValue) : Type 0 where
-  pub count : length seats ≡ n
-  pub numbers : HaveAllNumbers n seats
-  pub records : AreRecordsFrom from history seats
-  pub workers : AreOfWorkers from n history
-
 -- each entry of a history behind those that it begins with is of a worker who has one of n seats
 abbrev pub AreOfSeatsAfter : List Entry → ℕ → List Entry → Type 0
 AreOfSeatsAfter opening n history = AreOfWorkers (length opening) n history
 
--- this is true of the book that stood under a desk's lock: one of the problem, the branch and the first mark that the desk knows, whose
--- history begins with this one
-abbrev pub IsDeskBook : ProblemValue → Branch → StateValue → List Entry → (BookValue → Type 0) → Type 0
-IsDeskBook p branch first opening P =
-    (b : BookValue) × (b.problem ≡ p) × (b.branch ≡ branch) × (b.first ≡ first) × (take (length opening) b.history ≡ opening) × P b
+-- each lease that the entries since an opening leave to its worker is the current one of its tile
+abbrev pub AllStand : List Entry → List Entry → List TileValue → Type 0
+AllStand opening entries ts = (g : Grant) → holds (notes_of g.worker (length opening) entries) g ≡ true → is_current ts g ≡ true
 
--- at a book the lease isn't the tile's current one, or the seat has kept no room for the note of its end
-abbrev pub LacksRoom : SeatValue → Grant → BookValue → Type 0
-LacksRoom s g b = is_current b.tiles g ≡ true → s.kept ≡ 0
+-- these are all of so many seats: each number is that of just one
+pub record AreAllSeats (n : ℕ) (seats : List SeatValue) : Type 0 where
+  pub count : length seats ≡ n
+  pub numbers : HaveAllNumbers n seats
 
--- why a desk isn't finished: its seats don't fit its book, or memory ran out
-abbrev pub IsFinishFault : BookFault → Type 0
-IsFinishFault f = (f ≡ SeatMismatch) ⊎ (f ≡ OutOfMemory)
+-- a blank desk, as its callers know it: by which table it is told from others, and for how many seats it is
+pub record BlankValue : Type 0 where
+  pub name : TableId
+  pub parts : ℕ

@@ -1,32 +1,34 @@
 //! A desk: a book under one lock, which each worker calls from a seat of its own.
-ghost use Rattle.std.specs.Prelude.{◌≡◌, ◌<◌, ◌≤◌, [], IfOk, IfErr, OnOk, vec_len, vec_capacity, length, take, List};
+ghost use Rattle.std.specs.Prelude.{◌≡◌, ◌<◌, ◌≤◌, ◌↔◌, ℕ, [], IfOk, IfErr, OnOk, OnErr, IsTrue, vec_len, vec_capacity, length, take, List};
 ghost use Rattle.shared_words.specs.Workers.{most_workers, IsWorkerCount};
 ghost use Rattle.cover_problem.specs.Problem.{ProblemValue};
 ghost use Rattle.x_steps.specs.StateValue.{StateValue};
 ghost use Rattle.x_branches.specs.declared.branch.Branch.{Branch};
 ghost use Rattle.lab_history.specs.declared.entry.Entry.{Entry};
-ghost use Rattle.lab_desk.specs.Seats.{AreNewSeats, HaveAllNumbers, AreRecordsAfter, AreOfSeatsAfter, IsFinishedBy, IsDeskBook, IsFinishFault};
+ghost use Rattle.lab_desk.specs.Seats.{AreNewSeats, AreAllSeats, HaveAllNumbers, AreRecords, AreRecordsAfter, AreOfSeatsAfter, seats_of};
 
 mod ends;
 mod leases;
 mod posts;
 mod retractions;
 
-use crate::audit::tell_all;
-use crate::locked::Locked;
-use crate::seat::Seat;
+use crate::blank::Blank;
+use crate::locked::{Locked, agree};
+use crate::seat::{Noted, Own, Seat};
 use cover_problem::Problem;
-use lab_book::{Book, BookFault};
-use packed_rows::Row;
+use known_parts::{Keeper, Naming};
+use lab_book::{Book, BookFault, Entry};
 use std::alloc::Global;
+use std::collections::LinkedList;
 use std::marker::{Brand, Model};
-use std::sync::ledger::{Blank, Ledger, Share};
 use std::sync::{Condvar, Mutex};
 use x_steps::Refused;
 
-/// The ledger of a desk, and what its book came with: the history, the problem, the branch and the
-/// first mark.
-pub trait Desking: Ledger {
+/// The name of a desk, and what it was made with: how many seats, and its book's history, problem,
+/// branch and first mark.
+pub trait Desking: Naming {
+    ghost parts: { ℕ };
+
     ghost opening: { List Entry };
 
     ghost whole: { ProblemValue };
@@ -39,6 +41,8 @@ pub trait Desking: Ledger {
 impl Desking for Brand {
     ghost use Rattle.std.specs.Prelude.{[], None};
     ghost use Rattle.x_steps.specs.StateValue.{start};
+
+    ghost parts = { 0 };
 
     ghost opening = { [] };
 
@@ -55,11 +59,9 @@ pub struct Desk<'p, L: Desking> {
     lock: Mutex<Locked<'p, L>>,
     changed: Condvar,
     problem: &'p Problem,
-    /// How many entries the book came with.
-    from: usize,
     seats: u8,
     ghost same: { problem.now ≡ L.whole },
-    ghost opened: { from ≡ length L.opening },
+    ghost crew: { seats ≡ L.parts },
     ghost few: { seats ≤ most_workers },
 }
 
@@ -71,33 +73,78 @@ impl<'p, L: Desking> Model for Desk<'p, L> {
     ghost view = { λ d. record { seats = d.seats } };
 }
 
-/// Makes a seat for each part of a ledger.
-fn seat_all<L: Ledger>(alloc: Global, seats: &mut Vec<Seat<L>>, rest: Share<L>, n: u8)
+/// Makes so many seats, which know what a keeper knows of their numbers.
+fn seat_all<L: Desking>(
+    seats: &mut Vec<Seat<L>>,
+    keeper: &mut Keeper<LinkedList<Entry>, LinkedList<Noted>, Own, L>,
+    n: u8,
+)
     requires none { seats.old.items ≡ [] }
     requires room { n ≤ vec_capacity seats.old }
-    requires parts { (rest.parts ≡ n) × (rest.amount ≡ 0) }
+    requires fresh { (keeper.old.made ≡ 0) × (keeper.old.all ≡ []) }
+    requires crew { n ≡ L.parts }
     requires few { n ≤ most_workers }
     ensures len { vec_len seats.new ≡ n }
     ensures seats { AreNewSeats seats.new.items }
+    ensures all { keeper.new.all ≡ [] }
 {
-    // Who has one part of the ledger's share has one seat: no two seats are the same.
-    let mut rest = rest;
     'seating: for k in 0..n {
-        let share = rest.split_off(1, 0);
-        seats.push_reserved(Seat::new(alloc, k, share));
+        seats.push_reserved(Seat::new(k, keeper.new_part()));
+    }
+}
+
+/// How many of the seats have a number.
+fn seats_of<L: Desking>(seats: &[Seat<L>], number: u8) -> usize
+    ensures { result ≡ seats_of number seats.now }
+{
+    seats.iter().filter(|seat| seat.number == number).count()
+}
+
+/// Whether each number below this one is that of just one seat.
+fn have_all_numbers<L: Desking>(seats: &[Seat<L>], number: u8) -> bool
+    ensures { IsTrue result ↔ HaveAllNumbers number seats.now }
+{
+    // Just one seat each: seats of one desk are handed in, and none of them twice.
+    'counting: for k in 0..number {
+        if seats_of(seats, k) != 1 {
+            return false;
+        }
+    }
+    true
+}
+
+/// Whether these are all of so many seats, in any order.
+fn are_all_seats<L: Desking>(seats: &[Seat<L>], n: u8) -> bool
+    ensures { IsTrue result ↔ AreAllSeats n seats.now }
+{
+    if seats.len() != n as usize {
+        return false;
+    }
+    have_all_numbers(seats, n)
+}
+
+/// Nothing changes, and the notes of each seat are told to be the entries of its number.
+fn agree_all<L: Desking>(
+    keeper: &mut Keeper<LinkedList<Entry>, LinkedList<Noted>, Own, L>,
+    seats: &mut [Seat<L>],
+)
+    ensures { AreRecords (length L.opening) keeper.old.all seats.old }
+{
+    'agreeing: for k in 0..seats.len() {
+        agree(keeper, &mut seats[k]);
     }
 }
 
 impl<'p, L: Desking> Desk<'p, L> {
-    /// A desk over a book, with n seats, at which nothing was called. When out of memory the blank
-    /// ledger and the book come back.
+    /// A desk over a book, with n seats, at which nothing was called. When out of memory the blank and
+    /// the book come back.
     pub fn new(
         alloc: Global,
         blank: Blank,
         book: Book<'p>,
         n: u8,
     ) -> Result<(Desk<'p, L>, Vec<Seat<L>>), (Blank, Book<'p>)>
-        requires name { blank.name ≡ L.name }
+        requires name { blank.name ≡ L.table }
         requires parts { (blank.parts ≡ L.parts) × (blank.parts ≡ n) }
         requires seats { IsWorkerCount n }
         requires opening { book.history ≡ L.opening }
@@ -110,24 +157,18 @@ impl<'p, L: Desking> Desk<'p, L> {
         ensures blank_back { IfErr result (λ r. r.0 ≡ blank) }
         ensures book_back { IfErr result (λ r. r.1 ≡ book.entry) }
     {
-        // All memory is taken before the blank is opened: an open ledger can't go back.
+        // All memory is taken before the blank has a name: from there it can't go back.
         let Ok(mut seats) = Vec::with_capacity(alloc, n as usize) else {
             return Err((blank, book));
         };
         let problem = book.problem();
-        let from = book.history().len();
-        let (count, rest) = blank.open::<L>();
-        seat_all(alloc, &mut seats, rest, n);
-        let lock = Mutex::new(Locked {
-            book,
-            count,
-            row: Row::new(alloc),
-        });
+        let mut keeper = blank.named::<L>();
+        seat_all(&mut seats, &mut keeper, n);
+        let lock = Mutex::new(Locked { book, keeper });
         let desk = Desk {
             lock,
             changed: Condvar::new(),
             problem,
-            from,
             seats: n,
         };
         Ok((desk, seats))
@@ -148,8 +189,8 @@ impl<'p, L: Desking> Desk<'p, L> {
     }
 
     /// Takes the desk apart, without memory: the book comes out where all its seats are there, in
-    /// any order, and their notes are the entries that the book gained, each by its own worker.
-    /// Else both come back: the seats don't fit the book as it stood under the lock, or memory ran out.
+    /// any order. Their notes are the entries that the book gained, each by its own worker: that is
+    /// known of them, and nothing is compared. Else both come back.
     pub fn finish(
         self,
         seats: Vec<Seat<L>>,
@@ -162,43 +203,22 @@ impl<'p, L: Desking> Desk<'p, L> {
         ensures all_there { OnOk result (HaveAllNumbers self.entry.seats seats.items) }
         ensures notes { IfOk result (λ b. AreRecordsAfter L.opening b.history seats.items) }
         ensures workers { IfOk result (λ b. AreOfSeatsAfter L.opening self.entry.seats b.history) }
-        ensures refused { IfErr result (λ r. IsFinishFault r.fault) }
-        ensures mismatch { IfErr result (λ r. r.fault ≡ BookFault.SeatMismatch →
-            IsDeskBook L.whole L.part L.begin L.opening (λ b.
-            IsFinishedBy self.entry.seats (length L.opening) b.history seats.items → ⊥)) }
+        ensures refused { IfErr result (λ r. r.fault ≡ BookFault.SeatMismatch) }
+        ensures mismatch { OnErr result (AreAllSeats self.entry.seats seats.items → ⊥) }
         ensures desk_back { IfErr result (λ r. r.given.0 ≡ self.entry) }
         ensures seats_back { IfErr result (λ r. r.given.1 ≡ seats) }
     {
-        let Desk {
-            lock,
-            changed,
-            problem,
-            from,
-            seats: n,
-        } = self;
-        let Locked {
-            book,
-            count,
-            mut row,
-        } = lock.into_inner();
+        if !are_all_seats(&seats, self.seats) {
+            return Err(Refused {
+                fault: BookFault::SeatMismatch,
+                given: (self, seats),
+            });
+        }
         // Only here is it known that no worker calls any more: the desk is owned whole.
-        let fault = match tell_all(&seats, n, &mut row, from, &book.history()) {
-            Ok(true) => return Ok(book),
-            Ok(false) => BookFault::SeatMismatch,
-            Err(_) => BookFault::OutOfMemory,
-        };
-        // Refused, the desk is put together again just as it was.
-        let locked = Locked { book, count, row };
-        let desk = Desk {
-            lock: Mutex::new(locked),
-            changed,
-            problem,
-            from,
-            seats: n,
-        };
-        Err(Refused {
-            fault,
-            given: (desk, seats),
-        })
+        let Desk { lock, .. } = self;
+        let Locked { book, mut keeper } = lock.into_inner();
+        let mut seats = seats;
+        agree_all(&mut keeper, seats.as_mut_slice());
+        Ok(book)
     }
 }

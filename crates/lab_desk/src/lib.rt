@@ -1,48 +1,36 @@
-//! A book under one lock. Each worker calls it from a seat of its own, which notes its calls; the
-//! notes are compared with the history at the end.
+//! A book under one lock. Each worker calls it from a seat of its own, which knows what was noted of
+//! its calls: as much as the history has of them.
 #![tactic(auto)]
 
-/// A call of the book under a desk's lock. The seat's notes are its scribe, and pack by the scratch row
-/// that lies there. It is counted, unless it was refused for want of memory.
+/// A call of the book under a desk's lock, by a seat. What the history gained is known under the lock,
+/// and at that seat.
 macro_rules! called {
-    (
-        $locked:expr, $seat:expr, |$book:ident, $number:ident, $notes:ident| $call:expr,
-        |$refused:ident| $fault:expr
-    ) => {{
-        let mut locked = $locked;
+    ($locked:expr, $seat:expr, |$book:ident, $number:ident| $call:expr) => {{
         let Locked {
             book: $book,
-            count,
-            row,
-        } = &mut *locked;
+            keeper,
+        } = $locked;
         let Seat {
             number: $number,
-            notes: $notes,
-            share,
+            part,
         } = $seat;
-        // The row under the lock grew with earlier notes: packing by it seldom takes memory.
-        $notes.swap_row(row);
+        // What every book keeps, before and after: by that a lease that stood stands on.
+        $book.is_sound();
         let answer = $call;
-        $notes.swap_row(row);
+        $book.is_sound();
+        follow::<L, Brand>(keeper, part, &*$book);
         match answer {
-            Ok(answer) => {
-                // As many calls are counted as entries were added: this keeps the lock's promise.
-                count.add(share, 1);
-                Ok(answer)
-            }
-            Err($refused) => {
-                count_refusal(count, share, $fault);
-                Err($refused)
-            }
+            Ok(answer) => Ok(answer),
+            Err(refused) => Err(refused),
         }
     }};
 }
 
-mod audit;
+mod blank;
 mod desk;
 mod locked;
 mod seat;
-mod sheet;
 
+pub use blank::Blank;
 pub use desk::{Desk, Desking};
-pub use seat::{Noted, Seat};
+pub use seat::{Noted, Own, Seat};

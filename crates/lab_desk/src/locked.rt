@@ -1,52 +1,80 @@
-//! What lies under a desk's lock: a book, and the count of the calls that were noted.
-ghost use Rattle.std.specs.Prelude.{◌≡◌, ◌<◌, ◌+◌, ◌↔◌, IsTrue, length, take};
-ghost use Rattle.lab_desk.specs.Record.{HasEntry};
+//! What lies under a desk's lock: a book, and the one who knows all that it gained.
+ghost use Rattle.std.specs.Prelude.{◌≡◌, ◌≢◌, ℕ, true, length, take, drop};
+ghost use Rattle.lab_desk.specs.Record.{notes_of};
+ghost use Rattle.lab_desk.specs.Seats.{AllStand, are_of_workers};
 
 use crate::desk::Desking;
-use lab_book::{Book, BookFault};
-use packed_rows::Row;
-use std::sync::ledger;
-use std::sync::ledger::{Ledger, Share};
+use crate::seat::{Noted, Own, Seat};
+use known_parts::{Change, Keeper, KnownPart};
+use lab_book::{Book, Entry};
+use std::collections::LinkedList;
+use std::marker::{Brand, PhantomData};
 
-/// A book, the ledger's count of the entries that were made at the desk, and the scratch row by
-/// which the seats' notes are packed.
+/// A book, and the keeper of the entries that were made at the desk. Each lease that these leave to
+/// its worker stands.
 #[derive(Drop)]
 pub(crate) struct Locked<'p, L: Desking> {
     pub(crate) book: Book<'p>,
-    pub(crate) count: ledger::Book<L>,
-    pub(crate) row: Row,
-    ghost counted: { length book.history ≡ length L.opening + count.total },
+    pub(crate) keeper: Keeper<LinkedList<Entry>, LinkedList<Noted>, Own, L>,
     ghost same: { book.problem ≡ L.whole },
     ghost branch: { book.branch ≡ L.part },
     ghost first: { book.first ≡ L.begin },
     ghost opened: { take (length L.opening) book.history ≡ L.opening },
+    ghost known: { keeper.all ≡ drop (length L.opening) book.history },
+    ghost stand: { AllStand L.opening keeper.all book.tiles },
+    ghost crew: { are_of_workers L.parts keeper.all ≡ true },
 }
 
-/// Whether a refusal is that memory ran out, and stands nowhere.
-fn is_memory(fault: &BookFault) -> bool
-    ensures { IsTrue result ↔ (fault.now ≡ BookFault.OutOfMemory) }
-{
-    match fault {
-        BookFault::OutOfMemory => true,
-        _ => false,
-    }
+/// What the entries become at a call. Each call picks it, as `Brand`.
+pub trait NextEntries {
+    ghost use Rattle.std.specs.Prelude.{List};
+    ghost use Rattle.lab_history.specs.declared.entry.Entry.{Entry};
+
+    ghost next: { List Entry };
 }
 
-/// Counts a refusal; out of memory, it stands nowhere.
-pub(crate) fn count_refusal<L: Ledger>(
-    count: &mut ledger::Book<L>,
-    share: &mut Share<L>,
-    fault: &BookFault,
+impl NextEntries for Brand {
+    ghost use Rattle.std.specs.Prelude.{[]};
+
+    ghost next = { [] };
+}
+
+/// They become these.
+pub struct To<C: NextEntries> {
+    of: PhantomData<C>,
+}
+
+impl<C: NextEntries> Change<LinkedList<Entry>> for To<C> {
+    ghost next = { C.next };
+}
+
+/// The keeper and one seat learn what the history gained by a call of that seat.
+pub(crate) fn follow<L: Desking, C: NextEntries>(
+    keeper: &mut Keeper<LinkedList<Entry>, LinkedList<Noted>, Own, L>,
+    part: &mut KnownPart<LinkedList<Entry>, LinkedList<Noted>, L>,
+    book: &Book<'_>,
 )
-    requires share { 0 < share.old.parts }
-    ensures count { HasEntry fault.now → count.new.total ≡ count.old.total + 1 }
-    ensures share { HasEntry fault.now → share.new.amount ≡ share.old.amount + 1 }
-    ensures count_kept { fault.now ≡ BookFault.OutOfMemory → count.new.total ≡ count.old.total }
-    ensures share_kept { fault.now ≡ BookFault.OutOfMemory → share.new.amount ≡ share.old.amount }
-    ensures parts { share.new.parts ≡ share.old.parts }
+    requires next { drop (length L.opening) book.now.history ≡ C.next }
+    requires others { (j : ℕ) → j ≢ part.old.number →
+        notes_of j 0 (drop (length L.opening) book.now.history) ≡ notes_of j 0 keeper.old.all }
+    ensures keeper { keeper.new.all ≡ drop (length L.opening) book.now.history }
+    ensures number { part.new.number ≡ part.old.number }
+    ensures part { part.new.mine ≡ notes_of part.old.number 0 (drop (length L.opening) book.now.history) }
+    ensures agreed { part.old.mine ≡ notes_of part.old.number 0 keeper.old.all }
 {
-    // Such a refusal has no entry, and so it has no note to be counted.
-    if !is_memory(fault) {
-        count.add(share, 1);
-    }
+    // Nothing is done with the book: what its history has is what contracts speak of.
+    let _book = book;
+    keeper.change::<To<C>>(part);
+}
+
+/// Nothing changes, and the notes of a seat are told to be the entries of its number.
+pub(crate) fn agree<L: Desking>(
+    keeper: &mut Keeper<LinkedList<Entry>, LinkedList<Noted>, Own, L>,
+    seat: &mut Seat<L>,
+)
+    ensures keeper { keeper.new ≡ keeper.old }
+    ensures seat { seat.new ≡ seat.old }
+    ensures agreed { seat.old.notes ≡ notes_of seat.old.number (length L.opening) keeper.old.all }
+{
+    keeper.agree(&mut seat.part);
 }

@@ -1,5 +1,5 @@
 -- What a pool is done with is searched: that follows from the book's replay.
-use Rattle.std.proofs.Common.{ℕ, ◌≡◌, List, [], ◌∷◌, ◌++◌, length, take, drop, refl, sym, ap, ◌∙◌, subst, arith, Option, Some, Result, Ok, Err, IfOk, IfErr, OnOk, IfSome}
+use Rattle.std.proofs.Common.{ℕ, ◌≡◌, List, [], ◌∷◌, ◌++◌, length, take, drop, refl, sym, ap, ◌∙◌, subst, arith, Option, Some, None, Result, Ok, Err, IfOk, IfErr, OnOk, IfSome}
 use Rattle.std.proofs.Common.{Bool, true, false, IsTrue, ◌↔◌}
 use Rattle.std.proofs.lemmas.Bool.{false≢true}
 use Rattle.std.proofs.lemmas.List.{take-append-drop, take_all}
@@ -15,8 +15,8 @@ use Rattle.lab_book_laws.proofs.SearchedLemmas.{none_open, all_closed}
 use Rattle.lab_book_laws.proofs.PoolCallLemmas.{searched_by, open_held}
 use Rattle.cover_problem.specs.declared.fault.Refused.{Refused}
 use Rattle.lab_pool.specs.declared.fault.PoolFault.{PoolFault}
-use Rattle.lab_pool.specs.declared.fault.PoolFault.TheVariants.{Held, Mismatch}
-use Rattle.lab_pool.specs.Pool.{GoesOn, IsDone}
+use Rattle.lab_pool.specs.declared.fault.PoolFault.TheVariants.{Held, NoThread, Mismatch}
+use Rattle.lab_pool.specs.Pool.{GoesOn, IsDone, SomeAt}
 
 -- the book of a replay
 abbrev IsReplay : BookValue → Type 0
@@ -131,3 +131,12 @@ pub none_held : {E : Type 0} (old : BookValue) (r : Result BookValue E) → IfOk
     → OnOk r (held_tiles old.tiles ≡ [])
 none_held old (Ok b) s a = none_was_held old b s a
 none_held old (Err x) s a = tt
+
+-- a book that comes back at each refusal but a mismatch comes back where a thread was refused
+pub back_at_no_thread : (r : Result BookValue (Refused PoolFault (Option BookValue)))
+    → IfErr r (λ x. x.given ≡ None ↔ (x.fault ≡ Mismatch)) → SomeAt r NoThread
+back_at_no_thread (Ok b) h = tt
+back_at_no_thread (Err x) h = λ e n. different e (h.0 n)
+  where
+    different : x.fault ≡ NoThread → x.fault ≡ Mismatch → ⊥
+    different e m = cc

@@ -1,10 +1,10 @@
 -- How a worker ends its tile: by which call (`ending_call`), what it does next where the book refuses one (`next_after`), and what the last
--- note of its seat then is (`EndsIn`, `EndsInCall`, `Abandons`, `EndsTile`). What a call leased to it is `IfLeased` and `IsLeasedTo`; what its
--- seat keeps at other calls, `KeepsSeat`; and where its runner begins, `runner_for`.
+-- note of its seat then is (`EndsIn`, `Abandons`, `EndsTile`). What a call leased to it is `IfLeased` and `IsLeasedTo`; what its seat keeps at
+-- other calls, `KeepsSeat`; and where its runner begins, `runner_for`.
 --
 -- Example: worker 0 closes the tile that it is done with, and its seat's last note is that close. It doesn't park it, and where a call was
 -- refused its search ends. proofs/WorkerExamples.antt computes it.
-use Rattle.std.specs.Prelude.{◌≡◌, ◌⊎◌, List, Option, Result, IfOk, IfSome}
+use Rattle.std.specs.Prelude.{◌≡◌, ◌⊎◌, Bool, true, false, List, Option, Result, IfOk, IfSome}
 use Rattle.cover_problem.specs.Problem.{ProblemValue}
 use Rattle.x_branches.specs.Runner.{RunnerValue, runner_at}
 use Rattle.lab_history.specs.declared.grant.Grant.{Grant}
@@ -16,7 +16,7 @@ use Rattle.lab_history.specs.declared.entry.Reply.TheVariants as reply
 use Rattle.lab_history.specs.declared.fault.BookFault.{BookFault}
 use Rattle.lab_history.specs.declared.fault.BookFault.TheVariants as fault
 use Rattle.lab_desk.specs.declared.seat.Noted.{Noted}
-use Rattle.lab_desk.specs.Record.{SeatValue, Notes, NotesDone, AtSomeIndex}
+use Rattle.lab_desk.specs.Record.{SeatValue, Notes, NotesDone, AtSomeIndex, held_in, holds}
 use Rattle.lab_pool.specs.declared.search.Next.{Next}
 use Rattle.lab_pool.specs.declared.search.Next.TheVariants as next
 
@@ -35,14 +35,9 @@ next_after _ = next.Refused
 abbrev pub EndsIn : SeatValue → Call → Reply → Type 0
 EndsIn s c r = (before : List Noted) × AtSomeIndex (λ i. Notes i before s.notes s.number c r)
 
--- the last note of a seat is of this call, however it was answered
-abbrev pub EndsInCall : SeatValue → Call → Type 0
-EndsInCall s c = (r : Reply) × EndsIn s c r
-
--- the last note of a seat is that this lease's tile was abandoned, however that was answered; or memory was refused to this note, and then
--- this is so
-abbrev pub Abandons : SeatValue → Grant → Type 0 → Type 0
-Abandons s g P = EndsInCall s (call.Abandon g) ⊎ P
+-- the last note of a seat is that this lease's tile was abandoned
+abbrev pub Abandons : SeatValue → Grant → Type 0
+Abandons s g = EndsIn s (call.Abandon g) reply.Done
 
 -- a call that ended a lease, by what the worker does next, is noted as done
 abbrev pub NotesEnding : {X E : Type 0} → SeatValue → SeatValue → Next → Grant → Result X E → Type 0
@@ -54,22 +49,25 @@ HasLeft s g = EndsIn s (call.Close g) reply.Done ⊎ EndsIn s (call.Park g) repl
 
 -- how a lease was ended, by what the worker does next: its tile was closed where it is done, parked where the worker was asked to stop, and
 -- else abandoned
-abbrev pub EndsTile : Next → SeatValue → Grant → Type 0 → Type 0
-EndsTile next.Done s g P = EndsIn s (call.Close g) reply.Done
-EndsTile next.Stop s g P = EndsIn s (call.Park g) reply.Done
-EndsTile _ s g P = Abandons s g P
+abbrev pub EndsTile : Next → SeatValue → Grant → Type 0
+EndsTile n s g = EndsIn s (ending_call n g) reply.Done
+
+-- whether it leaves the tile at its mark: any but one that is done
+abbrev pub leaves_mark : Next → Bool
+leaves_mark next.Done = false
+leaves_mark n = true
 
 -- this is true of what a call leased, if it leased anything
 abbrev pub IfLeased : {X E : Type 0} → Result (Option X) E → (X → Type 0) → Type 0
 IfLeased result P = IfOk result (λ o. IfSome o P)
 
--- a tile is leased to the worker of a seat
+-- a tile is leased to the worker of a seat, which holds the lease
 abbrev pub IsLeasedTo : SeatValue → Leased → Type 0
-IsLeasedTo s l = l.lease.worker ≡ s.number
+IsLeasedTo s l = (l.lease.worker ≡ s.number) × (holds s.notes l.lease ≡ true)
 
--- a seat has its number, and as much room as before
+-- a seat has its number, and holds the leases that it held
 abbrev pub KeepsSeat : SeatValue → SeatValue → Type 0
-KeepsSeat old new = (new.number ≡ old.number) × (new.kept ≡ old.kept)
+KeepsSeat old new = (new.number ≡ old.number) × (held_in new.notes ≡ held_in old.notes)
 
 -- the runner that a lease asks for: in its tile's branch, at its mark
 abbrev pub runner_for : ProblemValue → Leased → RunnerValue

@@ -9,7 +9,7 @@ ghost use Rattle.lab_book.specs.Book.{waiting_in, leased_in, new_book};
 ghost use Rattle.lab_book.specs.Posted.{AllClosed};
 ghost use Rattle.lab_book_laws.specs.AlikeBooks.{held_tiles};
 ghost use Rattle.lab_book_laws.specs.Searched.{IsSearched};
-ghost use Rattle.lab_pool.specs.Pool.{GoesOn, GivenBack, OnlyHeld, IfFault, IfGiven, NoneAt, FaultWhere, IsBadCount};
+ghost use Rattle.lab_pool.specs.Pool.{GoesOn, GivenBack, OnlyHeld, IfFault, IfGiven, NoneAt, SomeAt, FaultWhere, IsBadCount};
 
 use crate::fault::PoolFault;
 use crate::gate::Gate;
@@ -18,14 +18,13 @@ use crate::verdict::{answer, mismatch, refuse, settle};
 use crate::worker::work;
 use cover_problem::{Problem, Table};
 use lab_book::Book;
-use lab_desk::{Desk, Desking, Seat};
+use lab_desk::{Blank, Desk, Desking, Seat};
 use lab_tickets::{TicketSeat, tickets};
 use shared_words::MOST_WORKERS;
 use std::alloc::Global;
 use std::marker::Brand;
 use std::sync::Wait;
 use std::sync::atomic::{AtomicBool, Ordering};
-use std::sync::ledger::{Blank, Ledger};
 use std::thread;
 use std::thread::{JoinHandle, Scope, Threads};
 use x_steps::Refused;
@@ -101,7 +100,7 @@ fn run_seats<T: Table + Send + Sync, L: Desking + Send + Sync, R: Threads + Wait
     refused
 }
 
-/// Finishes a book by a desk of this ledger.
+/// Finishes a book by a desk of this name.
 fn run_at<'p, T: Table + Send + Sync, L: Desking + Send + Sync, R: Threads + Wait + Sync, G: Gate>(
     rt: &R,
     alloc: Global,
@@ -110,7 +109,7 @@ fn run_at<'p, T: Table + Send + Sync, L: Desking + Send + Sync, R: Threads + Wai
     workers: u8,
     gate: &G,
 ) -> Result<Book<'p>, Refused<PoolFault, Option<Book<'p>>>>
-    requires name { blank.name ≡ L.name }
+    requires name { blank.name ≡ L.table }
     requires parts { (blank.parts ≡ L.parts) × (blank.parts ≡ workers) }
     requires workers { IsWorkerCount workers }
     requires opening { book.history ≡ L.opening }
@@ -199,15 +198,11 @@ pub fn run_pool_on<'p, T: Table + Send + Sync, R: Threads + Wait + Sync, G: Gate
     if book.waiting() == 0 {
         return settle(book);
     }
-    // A ledger's name is made here, and no caller has to choose one.
-    run_at::<T, Brand, R, G>(
-        rt,
-        alloc,
-        Blank::new(workers as u64),
-        book,
-        workers as u8,
-        gate,
-    )
+    let Ok(blank) = Blank::new(alloc, workers as u8) else {
+        return Err(refuse(PoolFault::OutOfMemory, book));
+    };
+    // A desk's name is made here, and no caller has to choose one.
+    run_at::<T, Brand, R, G>(rt, alloc, blank, book, workers as u8, gate)
 }
 
 /// Searches the whole run of a problem with so many workers, each with a table of its own. Where it doesn't finish, the book comes back
@@ -228,6 +223,7 @@ pub fn run_pool<'p, T: Table + Send + Sync, R: Threads + Wait + Sync, G: Gate>(
     ensures given_back { IfGiven result (λ b. GivenBack (new_book problem.now whole_run start) b) }
     ensures none_at_bad_workers { NoneAt result PoolFault.BadWorkerCount }
     ensures none_at_mismatch { NoneAt result PoolFault.Mismatch }
+    ensures some_at_no_thread { SomeAt result PoolFault.NoThread }
     ensures memory { IfFault result PoolFault.OutOfMemory (λ b. 0 < waiting_in b.tiles) }
     ensures threads { IfFault result PoolFault.NoThread (λ b. 0 < waiting_in b.tiles) }
     ensures several { IfRefused result PoolFault.NoThread (1 < workers) }

@@ -1,11 +1,11 @@
 //! A worker's search of the tile that it leased.
-ghost use Rattle.std.specs.Prelude.{◌≡◌, ◌<◌, IfOk, IfSome};
+ghost use Rattle.std.specs.Prelude.{◌≡◌, ◌<◌, true, IfOk, IfSome};
 ghost use Rattle.x_steps.specs.StateValue.{start};
 ghost use Rattle.x_branches.specs.Branch.{whole_run};
 ghost use Rattle.x_branches.specs.Runner.{runner_at};
 ghost use Rattle.x_branches.specs.Refusals.{CanShorten};
 ghost use Rattle.lab_book.specs.Calls.{CanBeSearched};
-ghost use Rattle.lab_desk.specs.Seats.{IsDeskBook, LacksRoom};
+ghost use Rattle.lab_desk.specs.Record.{holds};
 ghost use Rattle.lab_pool.specs.Worker.{next_after, runner_for, EndsTile, KeepsSeat};
 
 use crate::gate::Gate;
@@ -239,9 +239,9 @@ impl<'p, T: Table> Search<'p, T> {
         station: &mut Station<'_, 'p, L, R, G>,
         next: Next,
     ) -> (Runner<'p, T>, Next)
-        requires { self.lease.worker ≡ station.old.seat.now.number }
-        ensures ended { EndsTile result.1 station.new.seat.now self.entry.lease
-            (IsDeskBook L.whole L.part L.begin L.opening (LacksRoom station.old.seat.now self.entry.lease)) }
+        requires worker { self.lease.worker ≡ station.old.seat.now.number }
+        requires held { holds station.old.seat.now.notes self.lease ≡ true }
+        ensures ended { EndsTile result.1 station.new.seat.now self.entry.lease }
         ensures number { station.new.seat.now.number ≡ station.old.seat.now.number }
         ensures problem { result.0.problem ≡ self.entry.runner.problem }
     {
@@ -266,9 +266,9 @@ impl<'p, T: Table> Search<'p, T> {
         station: &mut Station<'_, 'p, L, R, G>,
     ) -> (Runner<'p, T>, Next)
         requires worker { self.lease.worker ≡ station.old.seat.now.number }
+        requires held { holds station.old.seat.now.notes self.lease ≡ true }
         requires own { self.runner.problem ≡ L.whole }
-        ensures ended { EndsTile result.1 station.new.seat.now self.entry.lease
-            (IsDeskBook L.whole L.part L.begin L.opening (LacksRoom station.old.seat.now self.entry.lease)) }
+        ensures ended { EndsTile result.1 station.new.seat.now self.entry.lease }
         ensures number { station.new.seat.now.number ≡ station.old.seat.now.number }
         ensures problem { result.0.problem ≡ self.entry.runner.problem }
     {

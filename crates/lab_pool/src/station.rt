@@ -1,8 +1,8 @@
 //! Where a worker calls: the desk and the gate that all share, and its own seat and deque.
-ghost use Rattle.std.specs.Prelude.{◌≡◌, IfErr, OnErr};
+ghost use Rattle.std.specs.Prelude.{◌≡◌, true, IfErr, OnErr, IsOk};
 ghost use Rattle.lab_book.specs.Calls.{CanBeSearched};
-ghost use Rattle.lab_desk.specs.Seats.{IsDeskBook, LacksRoom};
-ghost use Rattle.lab_pool.specs.Worker.{Abandons, IfLeased, IsLeasedTo, KeepsSeat, NotesEnding};
+ghost use Rattle.lab_desk.specs.Record.{held_in, holds};
+ghost use Rattle.lab_pool.specs.Worker.{Abandons, IfLeased, IsLeasedTo, KeepsSeat, NotesEnding, leaves_mark};
 
 use crate::gate::{Gate, GateCall};
 use crate::search::Next;
@@ -55,7 +55,7 @@ impl<'p, L: Desking, R: Wait, G: Gate> Station<'_, 'p, L, R, G> {
 
     /// Leases the tile of a ticket; None where it doesn't wait any more.
     fn lease(&mut self, id: u64) -> Result<Option<Leased<'p>>, AllocError>
-        ensures worker { IfLeased result (IsLeasedTo self.old.seat.now) }
+        ensures leased { IfLeased result (IsLeasedTo self.new.seat.now) }
         ensures can_start { IfLeased result (CanBeSearched L.whole) }
         ensures number { self.new.seat.now.number ≡ self.old.seat.now.number }
     {
@@ -74,7 +74,7 @@ impl<'p, L: Desking, R: Wait, G: Gate> Station<'_, 'p, L, R, G> {
 
     /// Leases by a ticket of its own deque.
     fn lease_own(&mut self) -> Result<Option<Leased<'p>>, AllocError>
-        ensures worker { IfLeased result (IsLeasedTo self.old.seat.now) }
+        ensures leased { IfLeased result (IsLeasedTo self.new.seat.now) }
         ensures can_start { IfLeased result (CanBeSearched L.whole) }
         ensures number { self.new.seat.now.number ≡ self.old.seat.now.number }
     {
@@ -104,7 +104,7 @@ impl<'p, L: Desking, R: Wait, G: Gate> Station<'_, 'p, L, R, G> {
 
     /// Leases by a ticket of another worker's deque: each is tried once, from the next number round.
     fn lease_stolen(&mut self) -> Result<Option<Leased<'p>>, AllocError>
-        ensures worker { IfLeased result (IsLeasedTo self.old.seat.now) }
+        ensures leased { IfLeased result (IsLeasedTo self.new.seat.now) }
         ensures can_start { IfLeased result (CanBeSearched L.whole) }
         ensures number { self.new.seat.now.number ≡ self.old.seat.now.number }
     {
@@ -125,7 +125,7 @@ impl<'p, L: Desking, R: Wait, G: Gate> Station<'_, 'p, L, R, G> {
 
     /// Leases the first tile that waits, and waits for one while some is leased.
     fn lease_waiting(&mut self) -> Result<Option<Leased<'p>>, AllocError>
-        ensures worker { IfLeased result (IsLeasedTo self.old.seat.now) }
+        ensures leased { IfLeased result (IsLeasedTo self.new.seat.now) }
         ensures can_start { IfLeased result (CanBeSearched L.whole) }
         ensures number { self.new.seat.now.number ≡ self.old.seat.now.number }
     {
@@ -139,7 +139,7 @@ impl<'p, L: Desking, R: Wait, G: Gate> Station<'_, 'p, L, R, G> {
     /// Leases a tile: by a ticket of its own, by one that is stolen, or the next that waits; None where
     /// none waits and none is leased.
     pub fn next_tile(&mut self) -> Result<Option<Leased<'p>>, AllocError>
-        ensures worker { IfLeased result (IsLeasedTo self.old.seat.now) }
+        ensures leased { IfLeased result (IsLeasedTo self.new.seat.now) }
         ensures can_start { IfLeased result (CanBeSearched L.whole) }
         ensures number { self.new.seat.now.number ≡ self.old.seat.now.number }
     {
@@ -189,7 +189,8 @@ impl<'p, L: Desking, R: Wait, G: Gate> Station<'_, 'p, L, R, G> {
         requires { lease.worker ≡ self.old.seat.now.number }
         ensures noted { NotesEnding self.old.seat.now self.new.seat.now next lease result }
         ensures given_back { IfErr result (λ r. r.given ≡ lease) }
-        ensures room_stays { OnErr result (self.new.seat.now.kept ≡ self.old.seat.now.kept) }
+        ensures current { leaves_mark next ≡ true → holds self.old.seat.now.notes lease ≡ true → IsOk result }
+        ensures held { OnErr result (held_in self.new.seat.now.notes ≡ held_in self.old.seat.now.notes) }
         ensures number { self.new.seat.now.number ≡ self.old.seat.now.number }
     {
         match next {
@@ -205,23 +206,23 @@ impl<'p, L: Desking, R: Wait, G: Gate> Station<'_, 'p, L, R, G> {
         requires { lease.worker ≡ self.old.seat.now.number }
         ensures noted { NotesEnding self.old.seat.now self.new.seat.now next lease result }
         ensures given_back { IfErr result (λ r. r.given ≡ lease) }
-        ensures room_stays { OnErr result (self.new.seat.now.kept ≡ self.old.seat.now.kept) }
+        ensures current { leaves_mark next ≡ true → holds self.old.seat.now.notes lease ≡ true → IsOk result }
+        ensures held { OnErr result (held_in self.new.seat.now.notes ≡ held_in self.old.seat.now.notes) }
         ensures number { self.new.seat.now.number ≡ self.old.seat.now.number }
     {
         gated!(self, GateCall::End, self.close_or_leave(lease, next))
     }
 
-    /// Gives a tile up; where that is refused, the lease is let go.
+    /// Gives a tile up. A lease that the seat holds is given up, whoever else called, and never let go.
     pub fn give_up(&mut self, lease: Lease)
         requires { lease.worker ≡ self.old.seat.now.number }
-        ensures abandoned { Abandons self.new.seat.now lease
-            (IsDeskBook L.whole L.part L.begin L.opening (LacksRoom self.old.seat.now lease)) }
+        ensures abandoned { holds self.old.seat.now.notes lease ≡ true → Abandons self.new.seat.now lease }
         ensures number { self.new.seat.now.number ≡ self.old.seat.now.number }
     {
         let Err(refused) = self.crew.desk.abandon(self.crew.rt, self.seat, lease) else {
             return;
         };
-        // Refused even so, its tile stays leased, and the pool answers a mismatch.
+        // Only one that it doesn't hold is refused: there is nothing to give up.
         refused.given.discard();
     }
 }

@@ -1,8 +1,7 @@
 //! A worker: it leases tiles and searches them until there is none.
 ghost use Rattle.std.specs.Prelude.{◌≡◌, None, IfSome};
 ghost use Rattle.lab_book.specs.Calls.{CanBeSearched};
-ghost use Rattle.lab_desk.specs.Seats.{IsDeskBook, LacksRoom};
-ghost use Rattle.lab_pool.specs.Worker.{HasLeft, Abandons};
+ghost use Rattle.lab_pool.specs.Worker.{HasLeft, Abandons, IsLeasedTo};
 
 use crate::gate::Gate;
 use crate::search::{Next, Search, first_runner};
@@ -20,12 +19,11 @@ fn search_tile<'p, T: Table, L: Desking, R: Wait, G: Gate>(
     runner: Runner<'p, T>,
     leased: Leased<'p>,
 ) -> Option<Runner<'p, T>>
-    requires worker { leased.lease.worker ≡ station.old.seat.now.number }
+    requires leased { IsLeasedTo station.old.seat.now leased }
     requires own { runner.problem ≡ L.whole }
     requires can { CanBeSearched L.whole leased }
     ensures ended { IfSome result (λ _. HasLeft station.new.seat.now leased.entry.lease) }
-    ensures given_up { result ≡ None → Abandons station.new.seat.now leased.entry.lease
-        (IsDeskBook L.whole L.part L.begin L.opening (LacksRoom station.old.seat.now leased.entry.lease)) }
+    ensures given_up { result ≡ None → Abandons station.new.seat.now leased.entry.lease }
     ensures number { station.new.seat.now.number ≡ station.old.seat.now.number }
     ensures own { IfSome result (λ r. r.problem ≡ L.whole) }
 {

@@ -5,11 +5,10 @@ use crate::searches::{Search, begin};
 use crate::waiter::{End, given_while_ended};
 use drawn_books::lease_in;
 use lab_book::{Book, BookFault, Posted};
-use lab_desk::{Desk, Desking, Seat};
+use lab_desk::{Blank, Desk, Desking, Seat};
 use std::alloc::Global;
 use std::marker::Brand;
 use std::sync::Wait;
-use std::sync::ledger::Blank;
 use std::thread::Threads;
 use x_steps::Refused;
 
@@ -308,7 +307,7 @@ fn finished_by<'p, L: Desking + Send + Sync, R: Threads + Wait + Sync>(
     }
 }
 
-/// The same of a desk of this ledger over a book.
+/// The same of a desk of this name over a book.
 fn at_desk_of<'p, L: Desking + Send + Sync, R: Threads + Wait + Sync>(
     rt: &R,
     alloc: Global,
@@ -317,7 +316,7 @@ fn at_desk_of<'p, L: Desking + Send + Sync, R: Threads + Wait + Sync>(
     todo: Work,
     way: Way,
 ) -> Option<Book<'p>>
-    requires name { blank.name ≡ L.name }
+    requires name { blank.name ≡ L.table }
     requires parts { (blank.parts ≡ L.parts) × (blank.parts ≡ 2) }
     requires opening { book.history ≡ L.opening }
     requires whole { book.problem ≡ L.whole }
@@ -338,5 +337,8 @@ pub fn at_desk<'p, R: Threads + Wait + Sync>(
     todo: Work,
     way: Way,
 ) -> Option<Book<'p>> {
-    at_desk_of::<Brand, R>(rt, alloc, Blank::new(2), book, todo, way)
+    match Blank::new(alloc, 2) {
+        Ok(blank) => at_desk_of::<Brand, R>(rt, alloc, blank, book, todo, way),
+        Err(_) => None,
+    }
 }

@@ -14,6 +14,8 @@ mod desk_tests;
 #[cfg(test)]
 mod desks;
 #[cfg(test)]
+mod dominoes;
+#[cfg(test)]
 mod gate_tests;
 #[cfg(test)]
 mod held_tests;

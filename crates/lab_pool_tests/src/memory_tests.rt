@@ -1,22 +1,22 @@
 //! A desk to which memory is refused: blank and book come back, the book as it was, and the same desk is made of them then. And a pool
 //! to which it is refused: it hands out its book, with no tile leased, and the rest is searched then.
-//! `dev/check_memory` runs these tests with one growth refused, each growth in turn.
-ghost use Rattle.std.specs.Prelude.{◌≡◌};
+//! `dev/do check_memory` runs these tests with one growth refused, each growth in turn.
+ghost use Rattle.std.specs.Prelude.{◌≡◌, IfSome};
 
 use crate::books::{Start, begins_with, book_of, has_counts};
 use crate::desks::has_number;
+use crate::dominoes::{add_dominoes, has_dominoes};
 use crate::pools::{finished_under, run_on};
 use cover_bits::BitTable;
 use cover_problem::{Problem, read_cover};
 use drawn_books::has_tiles;
 use drawn_problems::SMALL;
 use lab_book::Book;
-use lab_desk::{Desk, Desking, Seat};
+use lab_desk::{Blank, Desk, Desking, Seat};
 use lab_pool::{NoGate, PoolFault, run_pool};
 use std::alloc::Global;
 use std::marker::Brand;
 use std::sync::Wait;
-use std::sync::ledger::Blank;
 use std::test::Fail;
 use std::thread::Threads;
 use x_steps::Refused;
@@ -75,14 +75,14 @@ fn is_made<'p, L: Desking>(made: Result<(Desk<'p, L>, Vec<Seat<L>>), (Blank, Boo
     }
 }
 
-/// Whether a desk of this ledger is made of a book, on a second try where the first is refused.
+/// Whether a desk of this name is made of a book, on a second try where the first is refused.
 fn is_made_again<'p, L: Desking>(
     alloc: Global,
     blank: Blank,
     book: Book<'p>,
     copy: &Book<'p>,
 ) -> bool
-    requires name { blank.name ≡ L.name }
+    requires name { blank.name ≡ L.table }
     requires parts { (blank.parts ≡ L.parts) × (blank.parts ≡ 2) }
     requires opening { book.history ≡ L.opening }
     requires whole { book.problem ≡ L.whole }
@@ -98,9 +98,22 @@ fn is_made_again<'p, L: Desking>(
     }
 }
 
+/// A blank for two seats, on a second try where the first is refused.
+fn blank_of_two(alloc: Global) -> Option<Blank>
+    ensures { IfSome result (λ b. b.parts ≡ 2) }
+{
+    match Blank::new(alloc, 2) {
+        Ok(blank) => Some(blank),
+        Err(_) => Blank::new(alloc, 2).ok(),
+    }
+}
+
 /// The same of a desk of two seats.
 fn is_desk_made<'p>(alloc: Global, book: Book<'p>, copy: &Book<'p>) -> bool {
-    is_made_again::<Brand>(alloc, Blank::new(2), book, copy)
+    match blank_of_two(alloc) {
+        Some(blank) => is_made_again::<Brand>(alloc, blank, book, copy),
+        None => false,
+    }
 }
 
 /// How a test of such a desk ends, behind one growth.
@@ -128,66 +141,113 @@ fn desk_end(alloc: Global, problem: &Problem) -> End {
     }
 }
 
-/// Whether a book is finished, with the small problem's cover and its steps. It takes no memory to tell.
-fn is_small_finished(book: &Book<'_>) -> bool {
-    book.finished() && has_counts(book, 1, 43)
+/// What a pool searches here, and with how many workers.
+#[derive(Clone, Copy)]
+enum Run {
+    /// The small problem, with one.
+    Small,
+    /// Five dominoes in the box 5 2 1, with two.
+    Dominoes,
 }
 
-/// Whether one worker left a book of the small problem that is finished.
-fn is_left_finished(left: Option<(u8, Book<'_>)>) -> bool {
+impl Run {
+    fn workers(self) -> u32 {
+        match self {
+            Run::Small => 1,
+            Run::Dominoes => 2,
+        }
+    }
+
+    /// Whether a book is finished, with the problem's visits and steps. It takes no memory to tell.
+    fn is_finished(self, book: &Book<'_>) -> bool {
+        let has_all = match self {
+            Run::Small => has_counts(book, 1, 43),
+            Run::Dominoes => has_dominoes(book),
+        };
+        book.finished() && has_all
+    }
+}
+
+/// Whether the workers left a book that is finished.
+fn is_left_finished(left: Option<(u8, Book<'_>)>, run: Run) -> bool {
     match left {
-        Some((end, book)) => end == 0 && is_small_finished(&book),
+        Some((end, book)) => end == 0 && run.is_finished(&book),
         None => false,
     }
 }
 
-/// Whether one worker finishes a book of the small problem.
-fn finishes_on<R: Threads + Wait + Sync>(rt: &R, alloc: Global, book: Book<'_>) -> bool {
-    is_left_finished(run_on(rt, alloc, book, 1))
+/// Whether they finish a book.
+fn finishes_on<R: Threads + Wait + Sync>(rt: &R, alloc: Global, book: Book<'_>, run: Run) -> bool {
+    is_left_finished(run_on(rt, alloc, book, run.workers()), run)
 }
 
-/// Whether a book is there, and is the small problem's, finished.
-fn is_there_finished(book: Option<Book<'_>>) -> bool {
+/// Whether a book is there, and is finished.
+fn is_there_finished(book: Option<Book<'_>>, run: Run) -> bool {
     match book {
-        Some(book) => is_small_finished(&book),
+        Some(book) => run.is_finished(&book),
         None => false,
     }
 }
 
-/// Whether one worker finishes that problem's run.
-fn finishes<R: Threads + Wait + Sync>(rt: &R, alloc: Global, problem: &Problem) -> bool {
-    is_there_finished(finished_under::<BitTable, R, _>(rt, alloc, problem, 1, &NoGate))
+/// Whether they finish that problem's run.
+fn finishes<R: Threads + Wait + Sync>(rt: &R, alloc: Global, problem: &Problem, run: Run) -> bool {
+    let left = finished_under::<BitTable, R, _>(rt, alloc, problem, run.workers(), &NoGate);
+    is_there_finished(left, run)
 }
 
-/// Whether it does after a refusal, with the book that came back, or with none where there was no memory for one.
+/// Whether they do after a refusal, with the book that came back, or with none where there was no memory for one.
 fn finishes_given<R: Threads + Wait + Sync>(
     rt: &R,
     alloc: Global,
     problem: &Problem,
     refused: Refused<PoolFault, Option<Book<'_>>>,
+    run: Run,
 ) -> bool {
     let Refused { fault, given } = refused;
     let is_memory = fault == PoolFault::OutOfMemory;
     match given {
-        Some(book) => is_memory && finishes_on(rt, alloc, book),
-        None => is_memory && finishes(rt, alloc, problem),
+        Some(book) => is_memory && finishes_on(rt, alloc, book, run),
+        None => is_memory && finishes(rt, alloc, problem, run),
     }
 }
 
-/// Whether it does, on a second try where the first is refused.
-fn finishes_again<R: Threads + Wait + Sync>(rt: &R, alloc: Global, problem: &Problem) -> bool {
-    match run_pool::<BitTable, _, _>(rt, alloc, problem, 1, &NoGate) {
-        Ok(book) => is_small_finished(&book),
-        Err(refused) => finishes_given(rt, alloc, problem, refused),
+/// Whether they do, on a second try where the first is refused.
+fn finishes_again<R: Threads + Wait + Sync>(
+    rt: &R,
+    alloc: Global,
+    problem: &Problem,
+    run: Run,
+) -> bool {
+    match run_pool::<BitTable, _, _>(rt, alloc, problem, run.workers(), &NoGate) {
+        Ok(book) => run.is_finished(&book),
+        Err(refused) => finishes_given(rt, alloc, problem, refused, run),
     }
 }
 
 /// How a test of such a pool ends, behind one growth.
-fn pool_end<R: Threads + Wait + Sync>(rt: &R, alloc: Global, problem: &Problem) -> End {
+fn pool_end<R: Threads + Wait + Sync>(rt: &R, alloc: Global, problem: &Problem, run: Run) -> End {
     if grows(alloc) {
-        End::of(finishes_again(rt, alloc, problem))
+        End::of(finishes_again(rt, alloc, problem, run))
     } else {
         End::Unready
+    }
+}
+
+/// How a test of a pool of the dominoes ends, whose text this is.
+fn text_end<R: Threads + Wait + Sync>(rt: &R, alloc: Global, text: &str) -> End {
+    match read_cover(alloc, text.as_bytes()) {
+        Ok(problem) => pool_end(rt, alloc, &problem, Run::Dominoes),
+        Err(_) => End::Unset,
+    }
+}
+
+/// The same where the text is put together here.
+fn dominoes_end<R: Threads + Wait + Sync>(rt: &R, alloc: Global) -> End {
+    let mut text = String::new(alloc);
+    if add_dominoes(&mut text) {
+        text_end(rt, alloc, &text)
+    } else {
+        End::Unset
     }
 }
 
@@ -197,7 +257,7 @@ fn small_end<R: Threads + Wait + Sync>(rt: &R, alloc: Global, is_pool: bool) -> 
         return End::Unset;
     };
     if is_pool {
-        pool_end(rt, alloc, &problem)
+        pool_end(rt, alloc, &problem, Run::Small)
     } else {
         desk_end(alloc, &problem)
     }
@@ -212,5 +272,11 @@ fn a_refused_desk_gives_its_book_back(rt: HostRuntime) -> Result<(), Fail> {
 #[test]
 fn a_refused_pool_gives_its_book_back(rt: HostRuntime) -> Result<(), Fail> {
     assert!(rt; small_end(&rt, rt.alloc(), true).is_right()?);
+    Ok(())
+}
+
+#[test]
+fn a_refused_pool_of_two_gives_its_book_back(rt: HostRuntime) -> Result<(), Fail> {
+    assert!(rt; dominoes_end(&rt, rt.alloc()).is_right()?);
     Ok(())
 }

@@ -1,15 +1,66 @@
 //! What workers walked is posted at a desk, and their tiles are split.
 ghost use Rattle.std.specs.Prelude.{◌≡◌, IfErr};
 ghost use Rattle.cover_problem.specs.Problem.{is_same};
-ghost use Rattle.lab_desk.specs.Record.{NotesPost, NotesPostFault, NotesSplit, NotesSplitFault};
+ghost use Rattle.lab_desk.specs.Record.{NotesPost, NotesPostFault, NotesSplit, NotesSplitFault, held_in};
 
 use crate::desk::{Desk, Desking};
-use crate::locked::{Locked, count_refusal};
+use crate::locked::{Locked, follow};
 use crate::seat::Seat;
 use lab_book::{BookFault, Lease, Posted};
+use std::marker::Brand;
 use std::sync::Wait;
 use x_branches::{Cut, Stretch};
 use x_steps::Refused;
+
+impl<'p, L: Desking> Locked<'p, L> {
+    /// Posts a stretch.
+    fn post_compared(
+        &mut self,
+        seat: &mut Seat<L>,
+        lease: &Lease,
+        stretch: Stretch<'p>,
+        same: bool,
+    ) -> Result<Posted, Refused<BookFault, Stretch<'p>>>
+        requires worker { lease.now.worker ≡ seat.old.number }
+        requires same { same ≡ is_same stretch.problem L.whole }
+        ensures noted { NotesPost L.whole seat.old seat.new lease.now stretch.entry result }
+        ensures refused { NotesPostFault L.whole seat.old seat.new lease.now stretch.entry result }
+        ensures given_back { IfErr result (λ r. r.given ≡ stretch.entry) }
+        ensures held { held_in seat.new.notes ≡ held_in seat.old.notes }
+        ensures room { seat.new.kept ≡ seat.old.kept }
+        ensures number { seat.new.number ≡ seat.old.number }
+    {
+        called!(
+            self,
+            seat,
+            |book, _number| book.post_compared(lease, stretch, same)
+        )
+    }
+
+    /// Splits the tile that is leased.
+    fn split_compared(
+        &mut self,
+        seat: &mut Seat<L>,
+        lease: &Lease,
+        cut: Cut<'p>,
+        same: bool,
+    ) -> Result<u64, Refused<BookFault, Cut<'p>>>
+        requires worker { lease.now.worker ≡ seat.old.number }
+        requires same { same ≡ is_same cut.problem L.whole }
+        ensures noted { NotesSplit L.whole seat.old seat.new lease.now cut.entry result }
+        ensures refused { NotesSplitFault L.whole seat.old seat.new lease.now cut.entry result }
+        ensures given_back { IfErr result (λ r. r.given ≡ cut.entry) }
+        ensures held { held_in seat.new.notes ≡ held_in seat.old.notes }
+        ensures room { seat.new.kept ≡ seat.old.kept }
+        ensures number { seat.new.number ≡ seat.old.number }
+    {
+        called!(
+            self,
+            seat,
+            |book, _number| book.split_compared(lease, cut, same)
+        )
+    }
+}
 
 impl<'p, L: Desking> Desk<'p, L> {
     /// Posts a stretch, as the book does.
@@ -24,6 +75,7 @@ impl<'p, L: Desking> Desk<'p, L> {
         ensures noted { NotesPost L.whole seat.old seat.new lease.now stretch.entry result }
         ensures refused { NotesPostFault L.whole seat.old seat.new lease.now stretch.entry result }
         ensures given_back { IfErr result (λ r. r.given ≡ stretch.entry) }
+        ensures held { held_in seat.new.notes ≡ held_in seat.old.notes }
         ensures room { seat.new.kept ≡ seat.old.kept }
         ensures number { seat.new.number ≡ seat.old.number }
     {
@@ -47,15 +99,11 @@ impl<'p, L: Desking> Desk<'p, L> {
         ensures noted { NotesPost L.whole seat.old seat.new lease.now stretch.entry result }
         ensures refused { NotesPostFault L.whole seat.old seat.new lease.now stretch.entry result }
         ensures given_back { IfErr result (λ r. r.given ≡ stretch.entry) }
+        ensures held { held_in seat.new.notes ≡ held_in seat.old.notes }
         ensures room { seat.new.kept ≡ seat.old.kept }
         ensures number { seat.new.number ≡ seat.old.number }
     {
-        called!(
-            self.lock.lock(rt),
-            seat,
-            |book, _number, notes| book.post_by(notes, lease, stretch, same),
-            |refused| &refused.fault
-        )
+        self.lock.lock(rt).post_compared(seat, lease, stretch, same)
     }
 
     /// Splits the tile that is leased, as the book does.
@@ -70,6 +118,7 @@ impl<'p, L: Desking> Desk<'p, L> {
         ensures noted { NotesSplit L.whole seat.old seat.new lease.now cut.entry result }
         ensures refused { NotesSplitFault L.whole seat.old seat.new lease.now cut.entry result }
         ensures given_back { IfErr result (λ r. r.given ≡ cut.entry) }
+        ensures held { held_in seat.new.notes ≡ held_in seat.old.notes }
         ensures room { seat.new.kept ≡ seat.old.kept }
         ensures number { seat.new.number ≡ seat.old.number }
     {
@@ -92,15 +141,11 @@ impl<'p, L: Desking> Desk<'p, L> {
         ensures noted { NotesSplit L.whole seat.old seat.new lease.now cut.entry result }
         ensures refused { NotesSplitFault L.whole seat.old seat.new lease.now cut.entry result }
         ensures given_back { IfErr result (λ r. r.given ≡ cut.entry) }
+        ensures held { held_in seat.new.notes ≡ held_in seat.old.notes }
         ensures room { seat.new.kept ≡ seat.old.kept }
         ensures number { seat.new.number ≡ seat.old.number }
     {
-        let id = called!(
-            self.lock.lock(rt),
-            seat,
-            |book, _number, notes| book.split_by(notes, lease, cut, same),
-            |refused| &refused.fault
-        );
+        let id = self.lock.lock(rt).split_compared(seat, lease, cut, same);
         // A tile waits now, for which some worker may wait.
         self.changed.notify_all();
         id

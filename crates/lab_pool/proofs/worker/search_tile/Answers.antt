@@ -5,18 +5,15 @@ use Rattle.lab_pool.proofs.worker.search_tile.Goals as goal
 
 pub returns-in-OutOfMemory-clause-given_up : goal.returns-in-OutOfMemory-clause-given_up
 returns-in-OutOfMemory-clause-given_up g c =
-    λ _. lost g.L.Desking.whole g.L.Desking.part g.L.Desking.begin g.L.Desking.opening c.run-runner.result.1 next.OutOfMemory c.run-runner.new.station.seat.now
-    c.lacks_memory.new.self.seat.now c.args.station.now.seat.now c.args.leased.lease c.begin-search.result.lease c.in-OutOfMemory.is c.lacks_memory.ensures c.begin-search.ensures.lease
-    c.run-runner.ensures.ended
+    λ _. lost c.run-runner.result.1 next.OutOfMemory c.run-runner.new.station.seat.now c.lacks_memory.new.self.seat.now c.args.leased.lease
+    c.begin-search.result.lease c.in-OutOfMemory.is c.lacks_memory.ensures c.begin-search.ensures.lease c.run-runner.ensures.ended
 
 pub returns-in-On-clause-given_up : goal.returns-in-On-clause-given_up
 returns-in-On-clause-given_up g c =
-    λ _. lost g.L.Desking.whole g.L.Desking.part g.L.Desking.begin g.L.Desking.opening c.run-runner.result.1 next.On c.run-runner.new.station.seat.now
-    c.run-runner.new.station.seat.now c.args.station.now.seat.now c.args.leased.lease c.begin-search.result.lease c.in-On.is refl c.begin-search.ensures.lease
-    c.run-runner.ensures.ended
+    λ _. lost c.run-runner.result.1 next.On c.run-runner.new.station.seat.now c.run-runner.new.station.seat.now c.args.leased.lease
+    c.begin-search.result.lease c.in-On.is refl c.begin-search.ensures.lease c.run-runner.ensures.ended
 
 pub returns-clause-given_up : goal.returns-clause-given_up
 returns-clause-given_up g c =
-    λ _. lost g.L.Desking.whole g.L.Desking.part g.L.Desking.begin g.L.Desking.opening c.run-runner.result.1 next.Refused c.run-runner.new.station.seat.now
-    c.run-runner.new.station.seat.now c.args.station.now.seat.now c.args.leased.lease c.begin-search.result.lease c.in-Refused.is refl c.begin-search.ensures.lease
-    c.run-runner.ensures.ended
+    λ _. lost c.run-runner.result.1 next.Refused c.run-runner.new.station.seat.now c.run-runner.new.station.seat.now c.args.leased.lease
+    c.begin-search.result.lease c.in-Refused.is refl c.begin-search.ensures.lease c.run-runner.ensures.ended

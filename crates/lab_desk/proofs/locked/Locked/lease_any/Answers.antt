@@ -1,0 +1,55 @@
+use Rattle.std.proofs.Common.{◌∙◌, length, refl, sym, ap, subst, inl}
+use Rattle.lab_history.specs.declared.entry.Call.TheVariants as call
+use Rattle.lab_book.specs.Calls.{any_reply}
+use Rattle.lab_history.specs.declared.fault.BookFault.TheVariants.{OutOfMemory}
+use Rattle.lab_desk.specs.Record.{shifted}
+use Rattle.lab_desk.specs.Seats.{AllStand, are_of_workers}
+use Rattle.lab_desk.proofs.DeskLemmas.{others, same_problem, same_branch, same_first, opens, standing, crewed, stepped_any, any_answered, any_held, any_kept, none_more, refusal_held, refusal_kept}
+use Rattle.lab_desk.proofs.locked.Locked.lease_any.Goals.{in-Ok, in-Err}
+use Rattle.lab_desk.proofs.locked.Locked.lease_any.Goals as goal
+
+pub follow-requires-clause-others : goal.follow-requires-clause-others
+follow-requires-clause-others g c = λ j apart.
+    others _ _ _ _ _ (call.LeaseAny) (stepped_any c.lease_any-answer.result any_reply _ _ _ (call.LeaseAny) c.lease_any-answer.ensures.made c.lease_any-answer.ensures.unchanged) c.args.self.now.opened c.args.self.now.known j (λ same. apart (same ∙ sym (c.seat.inside.same)))
+
+pub invariant_of-self : goal.invariant_of-self
+invariant_of-self g c = record {
+  same = same_problem _ _ _ _ _ (call.LeaseAny) (stepped_any c.lease_any-answer.result any_reply _ _ _ (call.LeaseAny) c.lease_any-answer.ensures.made c.lease_any-answer.ensures.unchanged) c.args.self.now.opened c.args.self.now.known ∙ c.args.self.now.same;
+  branch = same_branch _ _ _ _ _ (call.LeaseAny) (stepped_any c.lease_any-answer.result any_reply _ _ _ (call.LeaseAny) c.lease_any-answer.ensures.made c.lease_any-answer.ensures.unchanged) c.args.self.now.opened c.args.self.now.known ∙ c.args.self.now.branch;
+  first = same_first _ _ _ _ _ (call.LeaseAny) (stepped_any c.lease_any-answer.result any_reply _ _ _ (call.LeaseAny) c.lease_any-answer.ensures.made c.lease_any-answer.ensures.unchanged) c.args.self.now.opened c.args.self.now.known ∙ c.args.self.now.first;
+  opened = opens _ _ _ _ _ (call.LeaseAny) (stepped_any c.lease_any-answer.result any_reply _ _ _ (call.LeaseAny) c.lease_any-answer.ensures.made c.lease_any-answer.ensures.unchanged) c.args.self.now.opened c.args.self.now.known;
+  known = c.follow.ensures.keeper;
+  stand = subst (λ es. AllStand g.L.Desking.opening es c.lease_any-answer.new.self.tiles) (sym c.follow.ensures.keeper)
+      (standing _ _ _ _ _ (call.LeaseAny) (stepped_any c.lease_any-answer.result any_reply _ _ _ (call.LeaseAny) c.lease_any-answer.ensures.made c.lease_any-answer.ensures.unchanged) c.args.self.now.opened c.args.self.now.known c.is_sound.ensures.tiling.numbered c.is_sound-2.ensures.tiling.numbered (λ x no. absurd no) c.args.self.now.stand);
+  crew = ap (are_of_workers g.L.Desking.parts) c.follow.ensures.keeper ∙ crewed _ _ _ _ _ (call.LeaseAny) (stepped_any c.lease_any-answer.result any_reply _ _ _ (call.LeaseAny) c.lease_any-answer.ensures.made c.lease_any-answer.ensures.unchanged) c.args.self.now.opened c.args.self.now.known g.L.Desking.parts c.seat.inside.one c.args.self.now.crew;
+}
+
+pub returns-clause-noted : goal.returns-clause-noted
+returns-clause-noted g c = elim c.match-answer.branch [
+  | in-Ok w ↦ rw (w.result-is, ← c.seat.view_is) (any_answered _ _ _ c.lease_any-answer.new.self _ c.args.self.now.opened c.args.self.now.known c.seat.inside.part.number (c.seat.inside.same) c.seat.inside.part.mine c.follow.new.part.mine c.follow.ensures.agreed c.follow.ensures.part _ w.in-Ok.ensures.made)
+  | in-Err w ↦ rw w.result-is tt
+]
+
+pub returns-clause-held : goal.returns-clause-held
+returns-clause-held g c = elim c.match-answer.branch [
+  | in-Ok w ↦ rw (w.result-is, ← c.seat.view_is) (any_held _ _ _ c.lease_any-answer.new.self _ c.args.self.now.opened c.args.self.now.known c.seat.inside.part.number (c.seat.inside.same) c.seat.inside.part.mine c.follow.new.part.mine c.follow.ensures.agreed c.follow.ensures.part _ w.in-Ok.ensures.made, tt)
+  | in-Err w ↦ rw (w.result-is, ← c.seat.view_is) (tt, refusal_held _ _ _ c.lease_any-answer.new.self _ (call.LeaseAny) c.args.self.now.opened c.args.self.now.known c.seat.inside.part.number (c.seat.inside.same) c.seat.inside.part.mine c.follow.new.part.mine c.follow.ensures.agreed c.follow.ensures.part OutOfMemory (inl (refl, w.in-Err.ensures.unchanged)))
+]
+
+pub returns-clause-room : goal.returns-clause-room
+returns-clause-room g c = elim c.match-answer.branch [
+  | in-Ok w ↦ rw (w.result-is, ← c.seat.view_is) (any_kept _ _ _ c.lease_any-answer.new.self _ c.args.self.now.opened c.args.self.now.known c.seat.inside.part.number (c.seat.inside.same) c.seat.inside.part.mine c.follow.new.part.mine c.follow.ensures.agreed c.follow.ensures.part _ w.in-Ok.ensures.made)
+  | in-Err w ↦ rw w.result-is tt
+]
+
+pub returns-clause-unchanged : goal.returns-clause-unchanged
+returns-clause-unchanged g c = elim c.match-answer.branch [
+  | in-Ok w ↦ rw w.result-is tt
+  | in-Err w ↦ rw (w.result-is, ← c.seat.view_is) (ap (shifted (length g.L.Desking.opening)) (none_more _ _ _ c.lease_any-answer.new.self _ (call.LeaseAny) c.args.self.now.opened c.args.self.now.known c.seat.inside.part.number (c.seat.inside.same) c.seat.inside.part.mine c.follow.new.part.mine c.follow.ensures.agreed c.follow.ensures.part w.in-Err.ensures.unchanged))
+]
+
+pub returns-clause-room_stays : goal.returns-clause-room_stays
+returns-clause-room_stays g c = elim c.match-answer.branch [
+  | in-Ok w ↦ rw w.result-is tt
+  | in-Err w ↦ rw (w.result-is, ← c.seat.view_is) (refusal_kept _ _ _ c.lease_any-answer.new.self _ (call.LeaseAny) c.args.self.now.opened c.args.self.now.known c.seat.inside.part.number (c.seat.inside.same) c.seat.inside.part.mine c.follow.new.part.mine c.follow.ensures.agreed c.follow.ensures.part OutOfMemory (inl (refl, w.in-Err.ensures.unchanged)))
+]

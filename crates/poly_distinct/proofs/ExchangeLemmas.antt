@@ -1,7 +1,7 @@
 -- The exchange of names as the code computes it: tests over the pieces with their forms are tests over the puzzle.
-use Rattle.std.proofs.Common.{◌≡◌, ℕ, ◌+◌, ◌<◌, ◌≤◌, ◌==◌, Bool, true, false, not, ◌&&◌, ◌||◌, cond, List, [], ◌∷◌, map, filter, length, get_or, drop, refl, sym, ap, ap₂, ◌∙◌}
+use Rattle.std.proofs.Common.{◌≡◌, ℕ, suc, ◌+◌, ◌<◌, ◌≤◌, ◌==◌, Bool, true, false, not, ◌&&◌, ◌||◌, cond, List, [], ◌∷◌, map, filter, length, get_or, take, drop, refl, sym, ap, ap₂, ◌∙◌, arith}
 use Rattle.std.specs.Prelude.{find, option_map, unwrap_or}
-use Rattle.std.specs.List.{list_all, list_any, range_with_len}
+use Rattle.std.specs.List.{list_all, list_any, prefix_len, range_with_len, take_while}
 use Rattle.std.specs.Ordering.{is_eq}
 use Rattle.std.proofs.Math.Bool.{beq}
 use Rattle.std.proofs.lemmas.List.{at_drop_more, drop_all}
@@ -12,7 +12,7 @@ use Rattle.poly_cells.specs.Symmetries.{is_rotation}
 use Rattle.poly_texts.specs.Puzzle.{PuzzleValue, names_of, has_name}
 use Rattle.poly_place.specs.Placements.{cells_cmp}
 use Rattle.poly_distinct.specs.Distinct.{is_mirrored, mirrors_pieces, keeps_flags, tells_names, are_mirrors}
-use Rattle.poly_distinct.specs.Exchange.{KindValue, RoleValue, mirror_name, has_mirrors, piece_kind, kinds_of, pairs_of, role_of, second_of, has_form, forms_by, takes_symmetry}
+use Rattle.poly_distinct.specs.Exchange.{KindValue, RoleValue, mirror_name, has_mirrors, piece_kind, kinds_of, pairs_of, role_of, second_of, has_form, forms_by, is_like, rank_among, takes_symmetry}
 
 -- ---- the first of a list that passes a test
 
@@ -141,3 +141,34 @@ all_next test xs i x b lt is t = at_drop_more (list_all test) xs i x lt ∙ ap (
 
 pub all_end : {X : Type 0} (test : X → Bool) (xs : List X) (i : ℕ) → length xs ≤ i → true ≡ list_all test (drop i xs)
 all_end test xs i le = ap (list_all test) (sym (drop_all i xs le))
+
+-- ---- how many like pieces come before a piece
+
+counted : (b : Bool) (x : KindValue) (ys : List KindValue) (one : ℕ) → one ≡ cond b 1 0 → length (cond b (x ∷ ys) ys) ≡ one + length ys
+counted true x ys one e = omega (arith, e)
+counted false x ys one e = omega (arith, e)
+
+at_most_one : (b : Bool) (one : ℕ) → one ≡ cond b 1 0 → one ≤ 1
+at_most_one true one e = omega (arith, e)
+at_most_one false one e = omega (arith, e)
+
+took : {X : Type 0} (test : X → Bool) (x : X) (xs : List X) → test x ≡ true → take_while test (x ∷ xs) ≡ x ∷ take_while test xs
+took test x xs h =
+    ap (λ (b : Bool). take (cond b (1 + prefix_len test xs) 0) (x ∷ xs)) h
+    ∙ ap (λ (n : ℕ). take n (x ∷ xs)) (let e : 1 + prefix_len test xs ≡ suc (prefix_len test xs) = omega arith in e)
+
+-- one piece more that isn't the one itself
+pub rank_next : (ks : List KindValue) (k x : KindValue) (i n one : ℕ) (b : Bool) → i < length ks → x ≡ get_or ks i x → (x.name == k.name) ≡ false → is_like k x ≡ b → one ≡ cond b 1 0
+    → (n + rank_among (drop i ks) k ≡ rank_among ks k) × (n ≤ i) → (n + one + rank_among (drop (i + 1) ks) k ≡ rank_among ks k) × (n + one ≤ i + 1)
+rank_next ks k x i n one b lt is other like e so =
+    let other_than : KindValue → Bool = λ l. not (l.name == k.name) in
+    let rest = take_while other_than (drop (i + 1) ks) in
+    let next : rank_among (drop i ks) k ≡ one + rank_among (drop (i + 1) ks) k =
+    ap (λ (js : List KindValue). rank_among js k) (at_drop_more (λ (ys : List KindValue). ys) ks i x lt ∙ ap (λ (y : KindValue). y ∷ drop (i + 1) ks) (sym is))
+    ∙ ap (λ (ys : List KindValue). length (filter (is_like k) ys)) (took other_than x (drop (i + 1) ks) (ap not other))
+    ∙ ap (λ (c : Bool). length (cond c (x ∷ filter (is_like k) rest) (filter (is_like k) rest))) like
+    ∙ counted b x (filter (is_like k) rest) one e in
+    let sum = so.0 in
+    let low = so.1 in
+    let most = at_most_one b one e in
+    (omega (arith, sum, next), omega (arith, low, most))

@@ -34,3 +34,4 @@ pub mod NotedLemmas
 pub mod LowerLemmas
 pub mod FirstImageLemmas
 pub mod ToldFormLemmas
+pub mod StayLemmas

@@ -107,3 +107,18 @@ module _ (form old : List ℕ) (e : length form ≡ length old) where
       by_cases Less h c = ap (λ (p : Ordering). by_order p form old old) c
       by_cases Equal h c = forms_exact form old (sym c) ∙ ap (λ (p : Ordering). by_order p form old old) c
       by_cases Greater h c = cc
+
+-- ---- the first two places
+
+-- a form that they tell to be above isn't taken
+pub above_from_start : (form old : List ℕ) (f s u v : ℕ) → 2 ≤ length form → length form ≡ length old → f ≡ get_or form 0 0 → s ≡ get_or form 1 0 → u ≡ get_or old 0 0 → v ≡ get_or old 1 0
+    → is_gt (ordering_then (nat_cmp f u) (nat_cmp s v)) ≡ true → old ≡ lesser form old
+above_from_start [] old f s u v le e ef es eu ev gt = absurd (omega (arith, le))
+above_from_start (x ∷ []) old f s u v le e ef es eu ev gt = absurd (omega (arith, le))
+above_from_start (x ∷ y ∷ xs) [] f s u v le e ef es eu ev gt = absurd (omega (arith, e))
+above_from_start (x ∷ y ∷ xs) (p ∷ []) f s u v le e ef es eu ev gt = absurd (omega (arith, e))
+above_from_start (x ∷ y ∷ xs) (p ∷ q ∷ ps) f s u v le e ef es eu ev gt =
+    let start = ap₂ ordering_then (ap₂ nat_cmp (sym ef) (sym eu)) (ap₂ nat_cmp (sym es) (sym ev)) ∙ greater_is _ gt in
+    let whole : forms_cmp (x ∷ y ∷ xs) (p ∷ q ∷ ps) ≡ Greater =
+    then_then (nat_cmp x p) (nat_cmp y q) (forms_cmp xs ps) ∙ ap (λ (o : Ordering). ordering_then o (forms_cmp xs ps)) start in
+    sym (ap (λ (o : Ordering). by_order o (x ∷ y ∷ xs) (p ∷ q ∷ ps) (p ∷ q ∷ ps)) whole)

@@ -1,6 +1,6 @@
 -- Symmetries as moves of places: which of them leave a cell where it is, and that they bring cells to lesser ones where they bring the places of
 -- the cells to lesser ones.
-use Rattle.std.proofs.Common.{◌≡◌, ℕ, ◌<◌, ◌==◌, Bool, true, false, not, ◌&&◌, List, [], ◌∷◌, map, length, inl, inr, refl, sym, ap, ap₂, subst, ◌∙◌, arith, Option, Some, Less, Greater, eqb-true, eq-eqb, slice_index}
+use Rattle.std.proofs.Common.{◌≡◌, ℕ, ◌<◌, ◌==◌, Bool, true, false, not, ◌&&◌, cond, List, [], ◌∷◌, filter, map, length, inl, inr, refl, sym, ap, ap₂, subst, ◌∙◌, arith, Option, Some, Less, Greater, eqb-true, eq-eqb, slice_index}
 use Rattle.std.specs.List.{range_with_len, position_or_len}
 use Rattle.std.specs.Ordering.{is_lt, nat_cmp, ordering_then}
 use Rattle.std.specs.Cmp.{nat_cmp_is, both_ways as same_tests}
@@ -26,7 +26,8 @@ use Rattle.poly_place.proofs.PlaceLemmas.{place_within, place_rises}
 use Rattle.poly_place.proofs.ChosenLemmas.{nat_exact}
 use Rattle.poly_place.proofs.CarryLemmas.{kept_stays}
 use Rattle.poly_distinct.specs.Distinct.{image_of, is_least, keeps_region}
-use Rattle.poly_distinct.specs.Moves.{HavePlaces, LiesInside, fixed_place, is_least_by, kept_at, leaves_place, leaves_thing, lowers}
+use Rattle.poly_distinct.specs.Counts.{ArePlacesAmong, first_of_cells, is_first_at}
+use Rattle.poly_distinct.specs.Moves.{HavePlaces, LiesInside, MovesValue, fixed_place, is_least_by, kept_at, leaves_place, leaves_thing, lowers}
 use Rattle.poly_distinct.proofs.AllowedLemmas.{kept_from, from_kept}
 use mathlib.Core.List.{map-map}
 
@@ -113,6 +114,24 @@ module _ (vs : List Coordinates) (s : IsShape vs) where
       ap is_lt (ap (λ (ks : List ℕ). forms_cmp ks (map place cells)) (carried_is n cells a b)
       ∙ same_orders (image_of vs n cells) cells (λ v i. b v (in_from_order coordinates_cmp v (map (image_in vs n) cells) i)) a)
 
+-- ---- what passes a test of what it is made into
+
+filter_step : {X Y : Type 0} (f : X → Y) (b : Bool) (x : X) (xs : List X) (ys : List Y) → ys ≡ map f xs → cond b (f x ∷ ys) ys ≡ map f (cond b (x ∷ xs) xs)
+filter_step {X} {Y} f true x xs ys e = ap (λ (zs : List Y). f x ∷ zs) e
+filter_step f false x xs ys e = e
+
+filter_map : {X Y : Type 0} (f : X → Y) (test : Y → Bool) (xs : List X) → filter test (map f xs) ≡ map f (filter (λ x. test (f x)) xs)
+filter_map f test [] = refl
+filter_map f test (x ∷ xs) = filter_step f (test (f x)) x (filter (λ y. test (f y)) xs) (filter test (map f xs)) (filter_map f test xs)
+
+-- what passes tests that agree on all members
+pub same_filter_in : {X : Type 0} (f g : X → Bool) (xs : List X) → ((x : X) → IsIn x xs → f x ≡ g x) → filter f xs ≡ filter g xs
+same_filter_in f g [] h = refl
+same_filter_in {X} f g (x ∷ xs) h = ap₂ (λ b (ys : List X). cond b (x ∷ ys) ys) (h x (inl refl)) (same_filter_in f g xs (λ y i. h y (inr i)))
+
+abbrev moves_at : PuzzleValue → Group → MovesValue
+moves_at p group = record { puzzle = p; group = group }
+
 -- ---- the symmetries of a group
 
 module _ (p : PuzzleValue) (z : IsPuzzle p) (group : Group) (gs : List (List ℕ)) (all : AreCarriers group p.region p.maybe_cells gs) where
@@ -192,6 +211,17 @@ module _ (p : PuzzleValue) (z : IsPuzzle p) (group : Group) (gs : List (List ℕ
   least_is t inside cells a =
       same_tests (is_least_by (fixed_place p.region t) (map at cells) gs) (is_least p.region (kept_at p group t) cells) (least_from t inside cells a) (from_least t inside cells a)
 
+  -- ---- cells at which some are first
+
+  -- of the places of cells those remain at which they are first
+  pub firsts_are : (cells : List Coordinates) (ks : List ℕ) → ArePlacesAmong p.region cells ks → filter (λ k. is_least_by (Some k) ks gs) ks ≡ first_of_cells (moves_at p group) cells
+  firsts_are cells ks a =
+      ap (λ (ns : List ℕ). filter (λ k. is_least_by (Some k) ns gs) ns) a.places_are
+      ∙ filter_map at (λ k. is_least_by (Some k) (map at cells) gs) cells
+      ∙ ap (map at)
+      (same_filter_in (λ v. is_least_by (Some (at v)) (map at cells) gs) (is_first_at (moves_at p group) cells) cells
+      (λ v i. least_is (a_cell v) (a.inside v i) cells a.inside))
+
   -- ---- the places that are looked up
 
   places_within : (cells : List Coordinates) → AreInside p.region cells → AreBelow (length p.region) (map at cells)
@@ -208,6 +238,12 @@ module _ (p : PuzzleValue) (z : IsPuzzle p) (group : Group) (gs : List (List ℕ
       let same : at v ≡ k = cc in
       subst (λ (n : ℕ). n < length p.region) same (place_within p.region v shape.rises i)
   fixed_within (a_node name h) i k e = cc
+
+  pub have_below : (ks : List ℕ) → AreBelow (length p.region) ks → (k : ℕ) → IsIn k ks → HavePlaces (Some k) ks gs
+  have_below ks below k i = record {
+    each = λ g h j m. subst (λ (n : ℕ). j < n) (sym (carriers_long g h)) (below j m);
+    one = λ g h j e. subst (λ (n : ℕ). j < n) (sym (carriers_long g h)) (let same : k ≡ j = cc in subst (λ (n : ℕ). n < length p.region) same (below k i));
+  }
 
   pub have_places : (t : Thing) → LiesInside p t → (cells : List Coordinates) → AreInside p.region cells → HavePlaces (fixed_place p.region t) (map at cells) gs
   have_places t inside cells a = record {

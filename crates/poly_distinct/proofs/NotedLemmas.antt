@@ -1,6 +1,7 @@
 -- A table of where numbers stood first, as numbers come one after another, tells the form that they make.
 use Rattle.std.proofs.Common.{◌≡◌, ℕ, ◌+◌, ◌<◌, ◌≤◌, ◌==◌, Bool, true, false, not, ◌&&◌, cond, List, [], ◌∷◌, ◌++◌, take, drop, map, length, get_or, nat_lt, slice_set, slice_index, inl, inr, refl, sym, ap, ap₂, subst, ◌∙◌, arith, eqb-true, eq-eqb}
 use Rattle.std.proofs.Math.ListN.{length-set}
+use Rattle.std.specs.Cmp.{both_ways as same_tests}
 use Rattle.std.proofs.lemmas.Bool.{cases_Bool, cases_lt, both_ways, cond-true, cond-false, le-ltb, lt-ltb, ne_eqb}
 use Rattle.std.proofs.lemmas.List.{get_or_default, length-map, length-take-le, get_or-map, get_or-set_same, get_or-set_other, take-append-drop}
 use Rattle.poly_cells.specs.Sets.{IsIn}
@@ -8,7 +9,7 @@ use Rattle.poly_cells.proofs.SetLemmas.{in_append_right, take_next}
 use Rattle.poly_cells.proofs.MemberLemmas.{same_map}
 use Rattle.poly_place.specs.Chosen.{place_in}
 use Rattle.poly_place.specs.Forms.{carried, first_form, form_by}
-use Rattle.poly_distinct.specs.Form.{with_noted}
+use Rattle.poly_distinct.specs.Form.{first_place, second_place, with_noted}
 
 -- where x stands first among these, counted from k on; 0 where it doesn't
 abbrev pub seen_from : ℕ → List ℕ → ℕ → ℕ
@@ -175,3 +176,30 @@ module _ (numbers carrier : List ℕ) (k x first : ℕ) (old new : List ℕ) (lt
   pub noted_tells : first ≡ slice_index new x → first ≡ get_or (form_by numbers carrier) k 0
   noted_tells is =
       is ∙ with_it x ∙ sym (ap (λ (y : ℕ). noted (take k there ++ y ∷ []) y) same) ∙ form_at there k within
+
+-- ---- the first two places
+
+turned : (x y : ℕ) → (x == y) ≡ (y == x)
+turned x y = same_tests (x == y) (y == x) (λ t. eq-eqb y x (sym (eqb-true x y t))) (λ t. eq-eqb x y (sym (eqb-true y x t)))
+
+first_is : (x : ℕ) → noted (x ∷ []) x ≡ first_place x
+first_is x = ap₂ (λ a b. cond a 0 (cond b 1 0)) (turned 0 x) (eq-eqb x x refl)
+
+second_is : (x y : ℕ) → noted (x ∷ y ∷ []) y ≡ second_place x y
+second_is x y =
+    ap₂ (λ a b. cond a 0 (cond b 1 (cond (y == y) 2 0))) (turned 0 y) (turned x y)
+    ∙ ap (λ b. cond (y == 0) 0 (cond (y == x) 1 (cond b 2 0))) (eq-eqb y y refl)
+
+pub first_told : (numbers carrier : List ℕ) (x : ℕ) → 2 ≤ length carrier → x ≡ slice_index numbers (slice_index carrier 0) → first_place x ≡ get_or (form_by numbers carrier) 0 0
+first_told numbers [] x le at = absurd (omega (arith, le))
+first_told numbers (a ∷ r) x le at =
+    sym (first_is x) ∙ ap (λ (y : ℕ). noted (y ∷ []) y) at
+    ∙ form_at (carried numbers (a ∷ r)) 0 (let long = length-map (a ∷ r) (slice_index numbers) in omega (arith, long))
+
+pub second_told : (numbers carrier : List ℕ) (x y : ℕ) → 2 ≤ length carrier → x ≡ slice_index numbers (slice_index carrier 0) → y ≡ slice_index numbers (slice_index carrier 1)
+    → second_place x y ≡ get_or (form_by numbers carrier) 1 0
+second_told numbers [] x y le f s = absurd (omega (arith, le))
+second_told numbers (a ∷ []) x y le f s = absurd (omega (arith, le))
+second_told numbers (a ∷ b ∷ r) x y le f s =
+    sym (second_is x y) ∙ ap₂ (λ (v w : ℕ). noted (v ∷ w ∷ []) w) f s
+    ∙ form_at (carried numbers (a ∷ b ∷ r)) 1 (let long = length-map (a ∷ b ∷ r) (slice_index numbers) in omega (arith, long))

@@ -1,5 +1,5 @@
 -- The tallies of cells: counts of places in the region.
-use Rattle.std.proofs.Common.{◌≡◌, ℕ, zero, suc, ◌+◌, ◌<◌, ◌≤◌, ◌^◌, ◌==◌, Bool, true, false, not, ◌&&◌, ◌||◌, cond, List, [], ◌∷◌, ◌++◌, map, filter, length, get_or, take, refl, sym, ap, ap₂, subst, ◌∙◌, arith, inl, inr, eq-eqb, eqb-true, Less}
+use Rattle.std.proofs.Common.{◌≡◌, ℕ, zero, suc, ◌+◌, ◌<◌, ◌≤◌, ◌==◌, Bool, true, false, not, ◌&&◌, ◌||◌, cond, List, [], ◌∷◌, ◌++◌, map, filter, length, get_or, take, refl, sym, ap, ap₂, subst, ◌∙◌, arith, inl, inr, eq-eqb, eqb-true, Less}
 use Rattle.std.specs.Prelude.{nat_lt}
 use Rattle.std.specs.List.{list_all}
 use Rattle.std.specs.List.Sorted.{IsStrictlySortedBy}
@@ -12,7 +12,8 @@ use Rattle.poly_cells.proofs.CoordinateLemmas.{is_same_Decides, coordinates_tota
 use Rattle.poly_cells.proofs.MemberLemmas.{all_pass, in_filter, in_from_filter, some_passes}
 use Rattle.poly_cells.proofs.SetLemmas.{cases_order, in_at, in_from_map, not_itself, rising_cons, rising_head, rising_tail, turned_back}
 use Rattle.shared_words.specs.Lists.{has, are_distinct}
-use Rattle.poly_texts.specs.Puzzle.{PuzzleValue, IsPuzzle}
+use Rattle.poly_texts.specs.Puzzle.{IsPuzzle}
+use Rattle.poly_place.specs.Forms.{AreBelow}
 use Rattle.poly_place.specs.Packings.{ChoiceValue, a_cell, every_choice, must_fill, place_of}
 use Rattle.poly_place.proofs.PlaceLemmas.{place_rises, place_within}
 use Rattle.poly_place.proofs.PlacedLemmas.{has_shapes, placed_in}
@@ -25,6 +26,7 @@ use Rattle.poly_distinct.specs.Rule.{TallyValue, is_kept_at, leaves_out}
 use Rattle.poly_place.specs.Compiled.{filled_cells}
 use Rattle.std.proofs.lemmas.List.{take_all}
 use Rattle.poly_distinct.proofs.LeftInLemmas.{choice_inside}
+use Rattle.poly_distinct.proofs.MovesLemmas.{same_filter_in}
 use Rattle.poly_distinct.proofs.StepLemmas.{must_is}
 
 -- ---- tests that agree
@@ -40,11 +42,6 @@ and_turned true true = refl
 and_turned true false = refl
 and_turned false true = refl
 and_turned false false = refl
-
--- what passes tests that agree on all members
-pub same_filter_in : {X : Type 0} (f g : X → Bool) (xs : List X) → ((x : X) → IsIn x xs → f x ≡ g x) → filter f xs ≡ filter g xs
-same_filter_in f g [] h = refl
-same_filter_in {X} f g (x ∷ xs) h = ap₂ (λ b (ys : List X). cond b (x ∷ ys) ys) (h x (inl refl)) (same_filter_in f g xs (λ y i. h y (inr i)))
 
 made : {X Y : Type 0} (f : X → Y) (test : Y → Bool) (x : X) (a b : Bool) (ys zs : List X) → test (f x) ≡ b → filter test (map f ys) ≡ map f zs
     → filter test (map f (cond a (x ∷ ys) ys)) ≡ map f (cond (a && b) (x ∷ zs) zs)
@@ -165,6 +162,13 @@ module _ (m : MovesValue) (z : IsPuzzle m.puzzle) (c : ChoiceValue) (i : IsIn c 
   pub places_within : (places : List ℕ) (n : ℕ) → places ≡ places_in m.puzzle c → n ≡ length m.puzzle.region → list_all (λ k. nat_lt k n) places ≡ true
   places_within places n e long = ap (list_all (λ k. nat_lt k n)) e ∙ places_low m.puzzle.region z.rises c.cells n long inside
 
+  pub places_below : (places : List ℕ) → places ≡ places_in m.puzzle c → AreBelow (length m.puzzle.region) places
+  places_below places e k i =
+      let from = in_from_map (place_of m.puzzle.region) k c.cells (subst (IsIn k) e i) in
+      let low = place_within m.puzzle.region from.0 z.rises (inside from.0 from.1) in
+      let is = from.2 in
+      omega (arith, low, is)
+
   pub firsts_within : (places : List ℕ) (n : ℕ) → places ≡ first_places m c → n ≡ length m.puzzle.region → list_all (λ k. nat_lt k n) places ≡ true
   firsts_within places n e long =
       ap (list_all (λ k. nat_lt k n)) e ∙ places_low m.puzzle.region z.rises (filter (is_first_at m c.cells) c.cells) n long some_inside
@@ -198,10 +202,6 @@ tally_at m z options kept k v lt is o f =
     ∙ same_tally (Cell w) (Cell v) _ _ _ _ (ap Cell (sym is))
     (sym (o.each k lt ∙ ap length (same_filter_in (λ c. has (places_in p c) k) (is_at (a_cell w)) (every_choice p) (λ c i. at_place m z c i k v lt))))
     (sym (f.each k lt ∙ ap length (same_filter_in (λ c. has (first_places m c) k) (is_kept_at p ns (a_cell w)) (every_choice p) (λ c i. kept_place m z c i k v lt))))
-
--- places are small
-pub place_low : (p : PuzzleValue) → IsPuzzle p → (v : Coordinates) → IsIn v p.region → place_of p.region v < 2 ^ 32
-place_low p z v i = let low = place_within p.region v z.rises i in let few = z.few in omega (arith, low, few)
 
 -- ---- those at which something is left out
 

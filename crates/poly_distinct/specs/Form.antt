@@ -19,3 +19,10 @@ EachIsMove n gs = (g : List ℕ) → IsIn g gs → IsMove n g
 -- a table that has 0 for numbers that aren't noted, after a number above 0 came at this place
 abbrev pub with_noted : List ℕ → ℕ → ℕ → List ℕ
 with_noted firsts number place = cond (nat_lt 0 number && (slice_index firsts number == 0)) (slice_set firsts number place) firsts
+
+-- what a form has at its first place, if the number there is x, and at its second, if y comes next
+abbrev pub first_place : ℕ → ℕ
+first_place x = cond (x == 0) 0 1
+
+abbrev pub second_place : ℕ → ℕ → ℕ
+second_place x y = cond (y == 0) 0 (cond (y == x) 1 2)

@@ -105,11 +105,14 @@ fn partner(kinds: &[PieceKind], kind: &PieceKind) -> PieceName
 fn rank(kinds: &[PieceKind], kind: &PieceKind) -> usize
     ensures { result ≡ rank_among kinds.now kind.now }
 {
-    kinds
-        .iter()
-        .take_while(|other| other.name() != kind.name())
-        .filter(|other| kind.is_like(other))
-        .count()
+    let mut place = 0;
+    for other in kinds {
+        if other.name() == kind.name() {
+            return place;
+        }
+        place += usize::from(kind.is_like(other));
+    }
+    place
 }
 
 /// The second of the pair with this name as its first, or the name itself where there is none.
@@ -150,7 +153,12 @@ fn mirror_pieces(kinds: &[PieceKind], pairs: &[(PieceName, PieceName)]) -> bool
         (λ l. (l.name == second_of pairs.now k.name) && has_form l.images k.piece) kinds.now)
         kinds.now }
 {
-    kinds.iter().all(|kind| mirrors_piece(kinds, pairs, kind))
+    for kind in kinds {
+        if !mirrors_piece(kinds, pairs, kind) {
+            return false;
+        }
+    }
+    true
 }
 
 /// Whether a piece is the mirror image of the one that takes its place.
@@ -160,9 +168,12 @@ fn mirrors_piece(kinds: &[PieceKind], pairs: &[(PieceName, PieceName)], kind: &P
         kinds.now }
 {
     let name = second_of(pairs, kind.name());
-    kinds
-        .iter()
-        .any(|other| other.name() == name && kind.is_mirrored(other))
+    for other in kinds {
+        if other.name() == name && kind.is_mirrored(other) {
+            return true;
+        }
+    }
+    false
 }
 
 /// Whether each piece may be used as the one that takes its place.
@@ -225,9 +236,12 @@ fn tell_names(puzzle: &Puzzle, kinds: &[PieceKind], pairs: &[(PieceName, PieceNa
     ensures { result ≡ list_all (λ k. list_all
         (λ l. tells_names puzzle.now (second_of pairs.now) k.name l.name) kinds.now) kinds.now }
 {
-    kinds
-        .iter()
-        .all(|kind| tell_name(puzzle, kinds, pairs, kind.name()))
+    for kind in kinds {
+        if !tell_name(puzzle, kinds, pairs, kind.name()) {
+            return false;
+        }
+    }
+    true
 }
 
 /// Whether a piece is equal to others, or the same, where those are that take their places.
@@ -241,15 +255,13 @@ fn tell_name(
         (λ l. tells_names puzzle.now (second_of pairs.now) name l.name) kinds.now }
 {
     let first = second_of(pairs, name);
-    kinds.iter().all(|other| {
-        tells(
-            puzzle,
-            first,
-            second_of(pairs, other.name()),
-            name,
-            other.name(),
-        )
-    })
+    for kind in kinds {
+        let other = kind.name();
+        if !tells(puzzle, first, second_of(pairs, other), name, other) {
+            return false;
+        }
+    }
+    true
 }
 
 /// Whether two pieces are equal, or the same, where those are that take their places.
@@ -300,16 +312,22 @@ fn are_onto(kinds: &[PieceKind], pairs: &[(PieceName, PieceName)]) -> bool
     ensures { result ≡ list_all (λ k. list_any
         (λ l. second_of pairs.now l.name == k.name) kinds.now) kinds.now }
 {
-    kinds
-        .iter()
-        .all(|kind| is_reached(kinds, pairs, kind.name()))
+    for kind in kinds {
+        if !is_reached(kinds, pairs, kind.name()) {
+            return false;
+        }
+    }
+    true
 }
 
 /// Whether a piece takes the place of one.
 fn is_reached(kinds: &[PieceKind], pairs: &[(PieceName, PieceName)], name: PieceName) -> bool
     ensures { result ≡ list_any (λ l. second_of pairs.now l.name == name) kinds.now }
 {
-    kinds
-        .iter()
-        .any(|other| second_of(pairs, other.name()) == name)
+    for other in kinds {
+        if second_of(pairs, other.name()) == name {
+            return true;
+        }
+    }
+    false
 }

@@ -1,5 +1,5 @@
 //! The symmetries of a puzzle's region, as moves of the places of its cells.
-ghost use Rattle.std.specs.Prelude.{◌≡◌, ◌<◌, ℕ, Option, Some, List, length, map, ◌∷◌, [], ◌++◌, OnOk};
+ghost use Rattle.std.specs.Prelude.{◌≡◌, ◌<◌, ℕ, IsTrue, false, Option, Some, List, filter, length, map, ◌∷◌, [], ◌++◌, OnOk};
 ghost use Rattle.std.specs.Ordering.{nat_cmp};
 ghost use Rattle.poly_cells.specs.Coordinates.{Coordinates};
 ghost use Rattle.poly_cells.specs.Sets.{IsIn, in_order};
@@ -9,6 +9,7 @@ ghost use Rattle.poly_place.specs.Packings.{place_of};
 ghost use Rattle.poly_place.specs.Forms.{carried, forms_cmp, AreBelow, AreCarriers};
 ghost use Rattle.poly_place.specs.Answers.{AddsLists, ReturnsLists};
 ghost use Rattle.poly_place.specs.Compiled.{ArePlacesOf};
+ghost use Rattle.poly_distinct.specs.Counts.{ArePlacesAmong, first_of_cells};
 ghost use Rattle.poly_distinct.specs.Distinct.{images_by, is_least};
 ghost use Rattle.poly_distinct.specs.Moves.{thing_of, kept_at, fixed_place, images_at, is_least_by, leaves_place, lowers, LiesInside};
 ghost use Rattle.poly_distinct.specs.Moves.{BeginsWith, HavePlaces, IsLeastOf};
@@ -98,8 +99,21 @@ impl<'p> Moves<'p> {
         Ok(images.len())
     }
 
+    /// Of the places of some cells those of the cells for which none of those that leave the cell where it is brings all to lesser ones.
+    pub(crate) fn first_among(
+        &self,
+        alloc: Global,
+        places: &[usize],
+    ) -> Result<Vec<usize>, AllocError>
+        requires { AreBelow (length self.now.puzzle.region) places.now }
+        ensures { (cells : List Coordinates) → ArePlacesAmong self.now.puzzle.region cells places.now
+            → ReturnsItems result (first_of_cells self.now cells) }
+    {
+        firsts(alloc, self.carriers.as_slice(), places)
+    }
+
     /// The place of each of the cells.
-    fn places_of(&self, alloc: Global, cells: &[Cell]) -> Result<Vec<usize>, AllocError>
+    pub(crate) fn places_of(&self, alloc: Global, cells: &[Cell]) -> Result<Vec<usize>, AllocError>
         requires { (v : Coordinates) → IsIn v cells.now → IsIn v self.now.puzzle.region }
         ensures { ReturnsItems result (map (place_of self.now.puzzle.region) cells.now) }
     {
@@ -156,6 +170,26 @@ impl<'p> Moves<'p> {
             Anchor::Cell(cell) => Some(self.place_of(*cell)),
         }
     }
+}
+
+/// Those of the places for which no carrier that leaves the place where it is brings all to lesser ones.
+fn firsts(
+    alloc: Global,
+    carriers: &[Vec<usize>],
+    places: &[usize],
+) -> Result<Vec<usize>, AllocError>
+    requires { (k : ℕ) → IsIn k places.now
+        → HavePlaces (Some k) places.now (lists_of carriers.now) }
+    ensures { ReturnsItems result
+        (filter (λ k. is_least_by (Some k) places.now (lists_of carriers.now)) places.now) }
+{
+    let mut firsts = Vec::new(alloc);
+    for place in places {
+        if is_least(alloc, carriers, Some(*place), places)? {
+            firsts.push(*place)?;
+        }
+    }
+    Ok(firsts)
 }
 
 /// Whether no carrier that leaves this place where it is brings the places to lesser ones.
@@ -234,10 +268,28 @@ fn lowers_list(
     requires { AreBelow (length carrier.now) places.now }
     ensures { Returns result (lowers places.now carrier.now) }
 {
+    if stays(carrier, places) {
+        return Ok(false);
+    }
     there.clear();
     carry(there, carrier, places)?;
     put_in_order(there);
     Ok(there.as_slice().cmp(&places).is_lt())
+}
+
+/// Whether a carrier leaves each of these places where it is, and they rise: so does the one that moves nothing.
+fn stays(carrier: &[usize], places: &[usize]) -> bool
+    requires { AreBelow (length carrier.now) places.now }
+    ensures { IsTrue result → lowers places.now carrier.now ≡ false }
+{
+    let mut next = 0;
+    for place in places {
+        if carrier[*place] != *place || *place < next {
+            return false;
+        }
+        next = *place + 1;
+    }
+    true
 }
 
 /// Where a carrier brings the places, in the same order.

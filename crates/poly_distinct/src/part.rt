@@ -141,7 +141,6 @@ impl<'a, 'p> AnchorPart<'a, 'p> {
     }
 
     /// For each choice at the anchor that is kept to how many sets of cells its cells are brought.
-    #[tactic(auto, using(crate::proofs::PartLemmas::counts_more))]
     fn counts(&self, alloc: Global) -> Result<Vec<usize>, AllocError>
         ensures { ReturnsItems result (counts_in self.now) }
     {

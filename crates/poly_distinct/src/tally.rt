@@ -1,16 +1,18 @@
 //! How many choices are at anchors, and how many of them are kept.
-ghost use Rattle.std.specs.Prelude.{◌≡◌, ◌≤◌, ◌&&◌, [], not, map, filter, length, OnOk};
-ghost use Rattle.shared_words.specs.Answers.{Adds, ReturnsItems};
+ghost use Rattle.std.specs.Prelude.{◌≡◌, ◌≤◌, ◌<◌, ◌^◌, ◌&&◌, ℕ, [], true, not, map, filter, length, nat_lt, slice_index, OnOk};
+ghost use Rattle.std.specs.List.{list_all};
+ghost use Rattle.shared_words.specs.Answers.{Adds};
+ghost use Rattle.shared_words.specs.Lists.{are_distinct};
 ghost use Rattle.poly_cells.specs.CellTests.{has_cell};
 ghost use Rattle.poly_cells.specs.Sets.{IsIn};
 ghost use Rattle.poly_texts.specs.Puzzle.{IsPuzzle};
 ghost use Rattle.poly_place.specs.Packings.{every_choice};
 ghost use Rattle.poly_place.specs.Compiled.{filled_cells};
-ghost use Rattle.poly_distinct.specs.Counts.{AreCounts, cell_tally, first_places, places_in};
+ghost use Rattle.poly_distinct.specs.Counts.{AreCounts, AreMore, HaveRoomForMore, cell_tally, first_places, places_in};
 ghost use Rattle.poly_distinct.specs.Rule.{leaves_out};
 
 use crate::anchor::Anchor;
-use crate::counts::{add_each, zeros};
+use crate::counts::zeros;
 use crate::moves::Moves;
 use poly_cells::Cell;
 use poly_place::{Choice, Compiled};
@@ -84,42 +86,44 @@ fn count_cells(
         (first_places moves.now) choices.now kept.new) }
 {
     for choice in choices {
-        let places = places_in(alloc, moves, choice)?;
-        add_each(options, places.as_slice());
-        let firsts = first_places(alloc, moves, choice)?;
-        add_each(kept, firsts.as_slice());
+        count_choice(alloc, options, kept, choice, moves)?;
     }
     Ok(())
 }
 
-/// How many of the region's cells come before each cell of a choice.
-fn places_in(alloc: Global, moves: &Moves<'_>, choice: &Choice) -> Result<Vec<u32>, AllocError>
+/// Counts a choice at each of its cells, and at those of them where it is kept.
+fn count_choice(
+    alloc: Global,
+    options: &mut [usize],
+    kept: &mut [usize],
+    choice: &Choice,
+    moves: &Moves<'_>,
+) -> Result<(), AllocError>
     requires puzzle { IsPuzzle moves.now.puzzle }
     requires member { IsIn choice.now (every_choice moves.now.puzzle) }
-    ensures { ReturnsItems result (places_in moves.now.puzzle choice.now) }
+    requires options { HaveRoomForMore (length moves.now.puzzle.region) options.old }
+    requires kept { HaveRoomForMore (length moves.now.puzzle.region) kept.old }
+    ensures options { OnOk result
+        (AreMore options.old options.new (places_in moves.now.puzzle choice.now)) }
+    ensures kept { OnOk result (AreMore kept.old kept.new (first_places moves.now choice.now)) }
 {
-    let mut places = Vec::new(alloc);
-    for cell in choice.cells() {
-        places.push(moves.place_of(*cell) as u32)?;
-    }
-    Ok(places)
+    let places = moves.places_of(alloc, choice.cells())?;
+    add_at(options, places.as_slice());
+    let firsts = moves.first_among(alloc, places.as_slice())?;
+    add_at(kept, firsts.as_slice());
+    Ok(())
 }
 
-/// The same of the cells at which the choice is kept: none of the moves that leave the cell where it is brings the choice's cells to lesser
-/// ones.
-fn first_places(alloc: Global, moves: &Moves<'_>, choice: &Choice) -> Result<Vec<u32>, AllocError>
-    requires puzzle { IsPuzzle moves.now.puzzle }
-    requires member { IsIn choice.now (every_choice moves.now.puzzle) }
-    ensures { ReturnsItems result (first_places moves.now choice.now) }
+/// Adds one to the counts at each of these places.
+fn add_at(counts: &mut [usize], places: &[usize])
+    requires distinct { are_distinct places.now ≡ true }
+    requires within { list_all (λ k. nat_lt k (length counts.old)) places.now ≡ true }
+    requires room { (k : ℕ) → k < length counts.old → slice_index counts.old k < 2 ^ 32 }
+    ensures { AreMore counts.old counts.new places.now }
 {
-    let cells = choice.cells();
-    let mut places = Vec::new(alloc);
-    for cell in cells {
-        if moves.is_first(alloc, &Anchor::Cell(*cell), cells)? {
-            places.push(moves.place_of(*cell) as u32)?;
-        }
+    for place in places {
+        counts[*place] += 1;
     }
-    Ok(places)
 }
 
 /// Adds the tallies, by these counts, of the cells that have to be filled, if something is left out there.

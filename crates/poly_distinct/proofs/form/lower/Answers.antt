@@ -56,3 +56,6 @@ returns-clause-best c =
     let g = c.args.carrier.now in
     lowering_ends (form_by n g) c.args.best.now (forms_long n g c.args.best.now c.requires.long c.requires.carrier.long) c.loop-k.k c.loop-k.order c.loop-k.best
     (forms_past n g c.loop-k.k c.loop-k-test.false) c.loop-k.invariant.lowering
+
+pub returns-then-starts_above-clause-best : goal.returns-then-starts_above-clause-best
+returns-then-starts_above-clause-best c = c.starts_above.ensures c.if-starts_above.true

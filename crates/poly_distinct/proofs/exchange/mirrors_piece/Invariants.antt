@@ -1,0 +1,9 @@
+use Rattle.std.proofs.Common.{◌≡◌, ◌==◌, ◌&&◌, drop}
+use Rattle.std.specs.List.{list_any}
+use Rattle.poly_distinct.specs.Exchange.{second_of, has_form}
+use Rattle.poly_distinct.proofs.exchange.mirrors_piece.Given as goal
+
+-- those that are left tell
+abbrev pub invariant-loop-other : goal.invariant-loop-other
+invariant-loop-other l =
+    list_any (λ o. (o.name == second_of l.pairs l.kind.name) && has_form o.images l.kind.piece) (drop l.other-index l.kinds) ≡ list_any (λ o. (o.name == second_of l.pairs l.kind.name) && has_form o.images l.kind.piece) l.kinds

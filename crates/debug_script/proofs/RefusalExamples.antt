@@ -1,8 +1,9 @@
 -- The example of specs/Refusals.antt.
-use Rattle.std.proofs.Common.{◌≡◌, inl, inr, arith, refl}
+use Rattle.std.proofs.Common.{◌≡◌, [], ◌∷◌, true, false, codes, inl, inr, arith, refl}
 use Rattle.lab_pool.specs.declared.fault.PoolFault.TheVariants.{BadWorkerCount, NoThread, Held}
 use Rattle.lab_pool.specs.Pool.{IsBadCount}
-use Rattle.debug_script.specs.Refusals.{MayRefuse, MayEnd}
+use Rattle.debug_language.specs.Reader.{engine_from}
+use Rattle.debug_script.specs.Refusals.{MayRefuse, MayEnd, has_pool}
 
 too_many : MayRefuse 33 BadWorkerCount
 too_many = record { number = (λ e. inr (omega arith), λ h. refl); not_held = λ e. absurd (cc) }
@@ -25,3 +26,12 @@ no_thread_ends = record { not_number = λ e. absurd (cc); not_held = λ e. absur
 -- commands don't end for the number of workers
 never_for_number : MayEnd BadWorkerCount → ⊥
 never_for_number m = m.not_number refl
+
+-- a line `pool` asks for workers, and others don't
+pool_asks : has_pool (codes "quit" ∷ codes "pool 2" ∷ []) ≡ true
+unfolding engine_from
+pool_asks = refl
+
+others_do_not : has_pool (codes "quit" ∷ codes "step 2" ∷ codes "pool 33" ∷ []) ≡ false
+unfolding engine_from
+others_do_not = refl

@@ -1,5 +1,5 @@
 -- How many workers a command asks for, and with which faults their search may end all.
-use Rattle.std.proofs.Common.{inl, inr, ◌≡◌, ℕ, nat_lt, ◌<◌, ◌≤◌, Bool, true, false, cond, nat_le, List, [], ◌∷◌, Option, Some, None, option_and_then, codes, refl, sym, subst, arith}
+use Rattle.std.proofs.Common.{inl, inr, ◌≡◌, ℕ, nat_lt, ◌<◌, ◌≤◌, Bool, true, false, cond, nat_le, List, [], ◌∷◌, Option, Some, None, option_and_then, codes, refl, sym, subst, ap, ◌∙◌, ◌||◌, zero, suc, drop, option_map, arith}
 use Rattle.std.specs.Prelude.{Result, Ok, Err, IfErr, IsErrAnd}
 use Rattle.std.specs.Str.{bytes_eq}
 use Rattle.std.proofs.lemmas.Bool.{leb-true, ltb-true}
@@ -10,7 +10,10 @@ use Rattle.lab_pool.specs.Pool.{IsBadCount}
 use Rattle.debug_language.specs.declared.engine.EngineCommand.TheVariants as engine
 use Rattle.debug_script.specs.declared.fault.RepliesFault.{RepliesFault}
 use Rattle.debug_script.specs.declared.fault.RepliesFault.TheVariants as faults
-use Rattle.debug_script.specs.Refusals.{MayRefuse, MayEnd, IsWantOr}
+use Rattle.x_debug.specs.Session.{SessionValue}
+use Rattle.debug_script.specs.Input.{raw_lines, without_newline}
+use Rattle.debug_script.specs.Refusals.{MayRefuse, MayEnd, IsWantOr, IsWantOrAsked, asks_for_workers, has_pool}
+use Rattle.debug_script.specs.Replies.{exchange}
 use Rattle.debug_language.specs.Reader.{most_number, number_from, count_from, workers, load_from, pool_from, quit_from, engine_from, engine_command_of}
 
 positive_is : (m n : ℕ) → positive m ≡ Some n → 0 < n
@@ -80,3 +83,43 @@ command_may_end line n h = may_end n (words_count _ n h)
 pub passed_on : {X E : Type 0} (P : E → Type 0) (f : E) (r : Result X E) → IsErrAnd r (λ e. e ≡ f) → P f → IfErr r P
 passed_on P f (Ok x) h p = tt
 passed_on P f (Err e) h p = subst P (sym h) p
+
+-- a raw line that asks for workers
+pub asked_by : (raw : List ℕ) (n : ℕ) → engine_command_of (without_newline raw) ≡ Some (engine.Pool n) → (f : RepliesFault) → IsWantOrAsked (raw ∷ []) f
+asked_by raw n h faults.OutOfMemory = tt
+asked_by raw n h (faults.Pool fault) = ap (λ o. asks_for_workers o || false) h
+
+-- the first of these lines asks for workers
+pub asked_among : (raw : List ℕ) (lines after all : List (List ℕ)) → lines ≡ raw ∷ after → (has_pool lines ≡ true → has_pool all ≡ true) → (f : RepliesFault)
+    → IsWantOrAsked (raw ∷ []) f → IsWantOrAsked all f
+asked_among raw lines after all e of faults.OutOfMemory h = tt
+asked_among raw lines after all e of (faults.Pool fault) h = of (ap has_pool e ∙ first (asks_for_workers (engine_command_of (without_newline raw))) h)
+  where
+    first : (b : Bool) → (b || false) ≡ true → (b || has_pool after) ≡ true
+    first true h = refl
+    first false h = absurd (cc)
+
+-- a line that is left when some were taken
+pub dropped_has : (n : ℕ) (lines : List (List ℕ)) → has_pool (drop n lines) ≡ true → has_pool lines ≡ true
+dropped_has zero lines h = h
+dropped_has (suc n) [] h = h
+dropped_has (suc n) (line ∷ lines) h = by (asks_for_workers (engine_command_of (without_newline line))) (dropped_has n lines h)
+  where
+    by : (b : Bool) → has_pool lines ≡ true → (b || has_pool lines) ≡ true
+    by true h = refl
+    by false h = h
+
+-- the lines that are left behind the first one are among these lines
+pub lines_left : (s : SessionValue) (raw after rest further : List ℕ) → raw_lines rest ≡ raw ∷ raw_lines after
+    → Some (raw_lines further) ≡ option_map (λ n. drop n (raw_lines after)) (exchange s raw (raw_lines after)).taken
+    → has_pool (raw_lines further) ≡ true → has_pool (raw_lines rest) ≡ true
+lines_left s raw after rest further lines left h = by (exchange s raw (raw_lines after)).taken left
+  where
+    by : (o : Option ℕ) → Some (raw_lines further) ≡ option_map (λ n. drop n (raw_lines after)) o → has_pool (raw_lines rest) ≡ true
+    by None e = absurd (cc)
+    by (Some n) e = let same : raw_lines further ≡ drop n (raw_lines after) = cc in
+        ap has_pool lines ∙ second (asks_for_workers (engine_command_of (without_newline raw))) (dropped_has n (raw_lines after) (subst (λ ls. has_pool ls ≡ true) same h))
+      where
+        second : (b : Bool) → has_pool (raw_lines after) ≡ true → (b || has_pool (raw_lines after)) ≡ true
+        second true h = refl
+        second false h = h

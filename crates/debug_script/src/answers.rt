@@ -1,9 +1,10 @@
 //! What a session of a problem answers to command lines.
-ghost use Rattle.std.specs.Prelude.{IfOk, IfErr, OnOk};
+ghost use Rattle.std.specs.Prelude.{[], ◌∷◌, IfOk, IfErr, OnOk};
 ghost use Rattle.shared_words.specs.Answers.{ReturnsItems};
 ghost use Rattle.x_debug.specs.Session.{fresh_session};
 ghost use Rattle.debug_script.specs.Alike.{SaysAlike, StaysAlike};
-ghost use Rattle.debug_script.specs.Refusals.{IsWantOr, MayEnd};
+ghost use Rattle.debug_script.specs.Input.{raw_lines};
+ghost use Rattle.debug_script.specs.Refusals.{IsWantOr, IsWantOrAsked, MayEnd};
 ghost use Rattle.debug_script.specs.Replies.{said_to, session_left, Leaves, IsNoLonger, AnswersAlike, replies_to};
 ghost use Rattle.text_lines.specs.Writes.{Writes};
 
@@ -47,6 +48,7 @@ fn exchange<'p, 'a, T: Table + Send + Sync, R: Threads + Wait + Sync, G: Gate>(
     ensures left { IfOk result (λ r. Leaves raw.now after.now r.1) }
     ensures no_longer { IfOk result (λ r. IsNoLonger r.1 after.now) }
     ensures why { IfErr result (IsWantOr MayEnd) }
+    ensures asked { IfErr result (IsWantOrAsked (raw.now ∷ [])) }
 {
     // By value: `pool` takes the book out of it, and another session goes on.
     let mut session = session;
@@ -82,6 +84,7 @@ fn answer_lines<T: Table + Send + Sync, R: Threads + Wait + Sync, G: Gate>(
 ) -> Result<(), RepliesFault>
     ensures text { AnswersAlike result text.old text.new session.entry commands.now }
     ensures why { IfErr result (IsWantOr MayEnd) }
+    ensures asked { IfErr result (IsWantOrAsked (raw_lines commands.now)) }
 {
     let mut session = session;
     let mut rest = commands;
@@ -98,7 +101,8 @@ fn answer_lines<T: Table + Send + Sync, R: Threads + Wait + Sync, G: Gate>(
 }
 
 /// What a new session of the problem answers to command lines, up to `quit` or the last. A command that is refused is told in the
-/// text; a `pool` whose workers don't finish ends all, and neither their number nor a held tile is why.
+/// text; a `pool` whose workers don't finish ends all, and neither their number nor a held tile is why. Without a line `pool` only want
+/// of memory does.
 pub fn replies<T: Table + Send + Sync, R: Threads + Wait + Sync, G: Gate>(
     rt: &R,
     alloc: Global,
@@ -108,6 +112,7 @@ pub fn replies<T: Table + Send + Sync, R: Threads + Wait + Sync, G: Gate>(
 ) -> Result<Vec<u8>, RepliesFault>
     ensures text { ReturnsItems result (replies_to (fresh_session problem.now) commands.now) }
     ensures why { IfErr result (IsWantOr MayEnd) }
+    ensures asked { IfErr result (IsWantOrAsked (raw_lines commands.now)) }
 {
     let session = Session::<T>::new(alloc, problem)?;
     let mut text = Vec::new(alloc);

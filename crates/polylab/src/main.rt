@@ -6,7 +6,7 @@ ghost use Rattle.polylab_line.specs.Line.{status_of};
 
 use byte_streams::Watched;
 use lab_pool::NoGate;
-use polylab_line::{LineFault, Request, parse_line, status};
+use polylab_line::{LineFault, Request, Threading, do_alone, do_together, parse_line, tell_no_job};
 use std::alloc::Global;
 use std::env;
 use std::io::{self, ErrorKind};
@@ -54,15 +54,34 @@ fn asked(rt: &HostRuntime) -> Result<Request, LineFault> {
 }
 
 fn main(rt: HostRuntime) -> ExitCode {
-    let status = status(
-        &rt,
-        rt.alloc(),
-        asked(&rt),
-        // A gate may hold workers back between their acts, which tests do. Here none is held.
-        &NoGate,
-        &mut Watched::reader(rt.stdin()),
-        &mut Watched::writer(rt.stdout()),
-        &mut Watched::writer(rt.stderr()),
-    );
+    let alloc = rt.alloc();
+    let mut reader = Watched::reader(rt.stdin());
+    let mut writer = Watched::writer(rt.stdout());
+    let mut faults = Watched::writer(rt.stderr());
+    let status = match asked(&rt) {
+        Err(fault) => tell_no_job(&fault, &mut writer, &mut faults),
+        Ok(asked) if asked.is_alone() => do_alone(
+            alloc,
+            asked,
+            &mut reader,
+            &mut writer,
+            &mut faults,
+        ),
+        Ok(asked) => {
+            // A gate may hold workers back between their acts, which tests do. Here none is held.
+            let threading = Threading {
+                rt: &rt,
+                gate: &NoGate,
+            };
+            do_together(
+                &threading,
+                alloc,
+                asked,
+                &mut reader,
+                &mut writer,
+                &mut faults,
+            )
+        }
+    };
     ExitCode::from(status)
 }

@@ -1,5 +1,5 @@
 -- What follows from how a run ended, clause by clause.
-use Rattle.std.proofs.Common.{◌≡◌, ◌<◌, ℕ, ◌⊎◌, inl, inr, List, [], ◌∷◌, Result, Ok, Err, Some, None, IfSome, length, take, refl, sym, subst, arith}
+use Rattle.std.proofs.Common.{◌≡◌, ◌<◌, ℕ, false, ◌⊎◌, inl, inr, List, [], ◌∷◌, Result, Ok, Err, Some, None, IfSome, length, take, refl, sym, subst, arith}
 use Rattle.std.specs.Prelude.{Option, Contains, OnOk, OnErr}
 use Rattle.std.proofs.lemmas.Grind.{common_steps}
 use Rattle.std.proofs.lemmas.List.{take_all}
@@ -13,7 +13,11 @@ use Rattle.polylab_engine.specs.declared.engine.RunEnding.{RunEnding}
 use Rattle.polylab_engine.specs.declared.engine.RunEnding.TheVariants.{Written, Refused, OutOfMemory, Pool, Unread, Unwritten}
 use Rattle.polylab_engine.specs.Outcome.{job_outcome, to_write, no_memory, pool_refusal, bad_reader, bad_writer}
 use Rattle.polylab_engine.specs.Listed.{IsListed}
-use Rattle.polylab_engine.specs.Refusals.{IsEndingOf, TellsWant}
+use Rattle.polylab_engine.specs.declared.job.Job.TheVariants as jobs
+use Rattle.polylab_engine.specs.declared.job.CoverJob.TheVariants as cover_jobs
+use Rattle.polylab_engine.specs.declared.job.PuzzleJob.TheVariants as puzzle_jobs
+use Rattle.polylab_engine.specs.Jobs.{takes_commands}
+use Rattle.polylab_engine.specs.Refusals.{IsEndingOf, TellsWant, MayOfInput, NoPool, pool_faults}
 use Rattle.polylab_engine.specs.Ending.{IsOutcomeOf, IsUnread, IsEnd, IsTold, status_of}
 use Rattle.polylab_engine.proofs.ListedLemmas.{outcome_lists}
 
@@ -52,6 +56,28 @@ pub want_is : (May : PoolFault → Type 0) (f f' : Stream) (e : RunEnding) → I
 want_is May f f' OutOfMemory h t s = inl t
 want_is May f f' (Pool fault) h t s = inr (fault, h, t)
 want_is May f f' _ h t s = absurd (omega arith)
+
+-- one worker ends a job without commands by no fault of workers
+none_alone : (job : Job) (input : List ℕ) (fault : PoolFault) → takes_commands job ≡ false → pool_faults job NoPool input fault → ⊥
+none_alone (jobs.Cover cover_jobs.List) input fault e h = h
+none_alone (jobs.Cover cover_jobs.Count) input fault e h = h
+none_alone (jobs.Cover (cover_jobs.First n)) input fault e h = h
+none_alone (jobs.Cover cover_jobs.Debug) input fault e h = absurd (cc)
+none_alone (jobs.Puzzle puzzle_jobs.Solve) input fault e h = h
+none_alone (jobs.Puzzle (puzzle_jobs.First n)) input fault e h = h
+none_alone (jobs.Puzzle puzzle_jobs.Count) input fault e h = h
+none_alone (jobs.Puzzle puzzle_jobs.Classes) input fault e h = h
+none_alone (jobs.Puzzle puzzle_jobs.Options) input fault e h = h
+none_alone (jobs.Puzzle (puzzle_jobs.SolveUpTo group)) input fault e h = h
+none_alone (jobs.Puzzle (puzzle_jobs.CountUpTo group)) input fault e h = h
+none_alone (jobs.Puzzle (puzzle_jobs.OptionsUpTo group)) input fault e h = h
+none_alone (jobs.Puzzle puzzle_jobs.Debug) input fault e h = absurd (cc)
+none_alone (jobs.Resume steps list) input fault e h = h
+
+-- so at status 4 it tells want of memory
+pub only_memory : (job : Job) (r f f' : Stream) → takes_commands job ≡ false → TellsWant (MayOfInput (pool_faults job NoPool) r) f f' → Takes f f' no_memory
+only_memory job r f f' e (inl t) = t
+only_memory job r f f' e (inr (fault, h, t)) = absurd (none_alone job h.0 fault e h.2)
 
 module _ (job : Job) (r r' w w' f f' : Stream) where
   pub done_is : (e : RunEnding) → IsEnd job r r' w w' e → status_of e ≡ 0 → (text : List ℕ) × IsOutcomeOf job r (Ok text) × TakesAll w w' text

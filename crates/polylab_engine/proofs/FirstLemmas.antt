@@ -11,7 +11,7 @@ use Rattle.poly_texts.specs.Puzzle.{PuzzleValue}
 use Rattle.poly_place.specs.Packings.{packing_problem}
 use Rattle.x_steps.specs.StateValue.{StateValue, start, done}
 use Rattle.x_steps.specs.Steps.{Fits}
-use Rattle.x_steps.specs.Run.{visits, states_between}
+use Rattle.x_steps.specs.Run.{states, visits, states_between}
 use Rattle.x_steps.specs.Machine.{MachineValue}
 use Rattle.x_steps.proofs.BetweenLemmas.{states_between_join, visits_join}
 use Rattle.x_steps.proofs.RunLemmas.{start_fits, done_fits, start_first, done_last}
@@ -19,7 +19,7 @@ use Rattle.x_texts.specs.Words.{visit_words}
 use Rattle.polylab_engine.specs.Account.{ReportValue, account_of}
 use Rattle.polylab_engine.specs.Output.{whole_report}
 use Rattle.poly_place.specs.Listing.{packings_from}
-use Rattle.polylab_engine.specs.Stretch.{stop_from, report_from, stretch_report}
+use Rattle.polylab_engine.specs.Stretch.{stop_from, report_from, stretch_report, HasFewerBefore}
 use Rattle.polylab_engine.specs.First.{IsFirstReport, cover_end, packings_end, first_cover_output, first_packings_output}
 use Rattle.polylab_engine.proofs.StopLemmas.{whole_stretch}
 
@@ -36,7 +36,8 @@ module _ (n : ℕ) (p : ProblemValue) where
   abbrev ahead : StateValue → List (List ℕ)
   ahead t = visits p (states_between p t done)
 
-  module _ (r : ReportValue) (t : StateValue) (fits : Fits p t) (report : r ≡ stretch_report true p start t) where
+  module _ (r : ReportValue) (t : StateValue) (fits : Fits p t) (report : r ≡ stretch_report true p start t)
+      (soon : (k : ℕ) → k < r.steps → length (visits p (states p k start)) < n) where
     seen : r.visits ≡ passed t
     unfolding account_of
     seen = ap (λ b. b.visits) report
@@ -55,6 +56,7 @@ module _ (n : ℕ) (p : ProblemValue) where
       visits = seen ∙ sym (ap₂ take (e ∙ counted) all ∙ take_first (passed t) (ahead t));
       visited = counted ∙ ap length (sym seen);
       whole = λ l. absurd (omega (arith, e, l));
+      soon = soon;
     }
 
     -- or it came to the end
@@ -65,18 +67,22 @@ module _ (n : ℕ) (p : ProblemValue) where
           visits = sym (take_all n r.visits many) ∙ ap (λ b. take n b.visits) e;
           visited = counted ∙ ap length (sym seen);
           whole = λ l. e;
+          soon = soon;
         }
 
   module _ (m : MachineValue) (at_first : m ≡ record { problem = p; state = start }) (r : ReportValue) (t : StateValue) where
-    pub first_report : (Some n ≡ Some r.visited) ⊎ (t ≡ stop_from prelude.None m []) → ForSome (Some n) (λ k. r.visited ≤ k) → Fits m.problem t → r ≡ report_from true m t → IsFirstReport n p r
-    first_report stop few fits report =
+    pub first_report : (Some n ≡ Some r.visited) ⊎ (t ≡ stop_from prelude.None m []) → ForSome (Some n) (λ k. r.visited ≤ k) → ForSome (Some n) (HasFewerBefore m r.steps) → Fits m.problem t → r ≡ report_from true m t → IsFirstReport n p r
+    first_report stop few fewer fits report =
         let there : Fits p t = subst (λ (q : MachineValue). Fits q.problem t) at_first fits in
         let told : r ≡ stretch_report true p start t = report ∙ ap (λ (q : MachineValue). stretch_report true q.problem q.state t) at_first in
         by stop there told
       where
+        early : (k : ℕ) → k < r.steps → length (visits p (states p k start)) < n
+        early = subst (λ (q : MachineValue). HasFewerBefore q r.steps n) at_first (fewer n refl)
+
         by : (Some n ≡ Some r.visited) ⊎ (t ≡ stop_from prelude.None m []) → Fits p t → r ≡ stretch_report true p start t → IsFirstReport n p r
-        by (inl e) there told = let same : n ≡ r.visited = cc in stopped r t there told same
-        by (inr e) there told = ended r t there told (whole_stretch true p m at_first r t e report) (few n refl)
+        by (inl e) there told = let same : n ≡ r.visited = cc in stopped r t there told early same
+        by (inr e) there told = ended r t there told early (whole_stretch true p m at_first r t e report) (few n refl)
 
 -- ---- what is written of it
 

@@ -1,5 +1,6 @@
 -- The examples of specs/Account.antt, Stretch.antt, Debugged.antt, Ending.antt, Listed.antt, Jobs.antt and Refusals.antt, on the small problem.
-use Rattle.std.proofs.Common.{◌≡◌, ℕ, zero, suc, ◌+◌, ◌<◌, true, false, Some, None, List, [], ◌∷◌, ◌++◌, codes, refl, lit<, lit≤, arith}
+use Rattle.std.proofs.Common.{◌≡◌, ℕ, zero, suc, ◌+◌, ◌<◌, true, false, Some, None, List, [], ◌∷◌, ◌++◌, codes, refl, sym, ◌∙◌, lit<, lit≤, arith}
+use Rattle.std.proofs.lemmas.Bool.{false≢true}
 use Rattle.std.specs.Prelude.{slice_index}
 use Rattle.cover_problem.specs.Problem.{IsProblem}
 use Rattle.cover_problem.specs.Covering.{active, remaining, choice}
@@ -19,6 +20,8 @@ use Rattle.debug_language.specs.Reader.{command_from, engine_from}
 use Rattle.x_debug.specs.Questions.{question_lines}
 use Rattle.x_debug.specs.Commands.{deed_of}
 use Rattle.debug_script.specs.declared.fault.RepliesFault.TheVariants as replies
+use Rattle.debug_script.specs.Input.{command_lines}
+use Rattle.debug_script.specs.Refusals.{has_pool}
 use Rattle.debug_script.specs.Replies.{exchange, debug_replies}
 use Rattle.polylab_engine.specs.declared.job.Job.TheVariants as jobs
 use Rattle.polylab_engine.specs.declared.job.CoverJob.TheVariants as cover_jobs
@@ -129,9 +132,14 @@ neither = (refl, refl)
 -- ---- specs/Refusals.antt
 
 -- `options` ends with no fault of workers, whatever a search may end with
-no_search : (May : PoolFault → Type 0) (fault : PoolFault) → pool_faults (jobs.Puzzle puzzle_jobs.Options) May fault → ⊥
-no_search May fault h = h
+no_search : (May : PoolFault → Type 0) (input : List ℕ) (fault : PoolFault) → pool_faults (jobs.Puzzle puzzle_jobs.Options) May input fault → ⊥
+no_search May input fault h = h
 
 -- `debug` doesn't end for the number of workers
-not_for_number : (May : PoolFault → Type 0) → pool_faults (jobs.Cover cover_jobs.Debug) May BadWorkerCount → ⊥
-not_for_number May h = h.not_number refl
+not_for_number : (May : PoolFault → Type 0) (input : List ℕ) → pool_faults (jobs.Cover cover_jobs.Debug) May input BadWorkerCount → ⊥
+not_for_number May input h = h.0.not_number refl
+
+-- nor for any fault of workers where no command is `pool`
+not_without_pool : (May : PoolFault → Type 0) (input : List ℕ) (fault : PoolFault) → has_pool (command_lines input) ≡ false
+    → pool_faults (jobs.Cover cover_jobs.Debug) May input fault → ⊥
+not_without_pool May input fault none h = false≢true (sym none ∙ h.1)

@@ -2,6 +2,7 @@ pub mod NumberLemmas
 pub mod AccountLemmas
 pub mod StopLemmas
 mod SearchLemmas
+mod SoonLemmas
 mod FirstLemmas
 pub mod ResumeLemmas
 pub mod ToldLemmas
@@ -10,6 +11,7 @@ pub mod ClassifiedLemmas
 pub mod UpToLemmas
 mod ListedLemmas
 mod EndingLemmas
+mod DebugLemmas
 mod OutputExamples
 mod PackedExamples
 mod UpToExamples

@@ -162,7 +162,7 @@ module _ (keeps : Bool) (p : ProblemValue) (from : StateValue) (end : List ℕ) 
   passed : states_between p from new.state ≡ states_between p from m.state ++ states p n m.state
   passed = states_between_join p from m.state new.state s.from_fits s.fits new_fits s.begun up ∙ ap (λ k. states_between p from m.state ++ states p k m.state) taken
 
-  steps_on : steps_between p from new.state ≡ n + steps_between p from m.state
+  pub steps_on : steps_between p from new.state ≡ n + steps_between p from m.state
   steps_on = steps_between_join p from m.state new.state s.from_fits s.fits new_fits s.begun up ∙ ap (λ k. k + steps_between p from m.state) taken
 
   pub searches_on : (path : List ℕ) (more : Account) (rest : Option ℕ) → new.problem ≡ m.problem → n ≤ room → ForSome left (λ l. n ≤ l) → ((i : ℕ) → i < n → IsAtCut (after m.problem i m.state) end → ⊥)

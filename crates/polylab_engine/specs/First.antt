@@ -8,6 +8,8 @@ use Rattle.text_lines.specs.Writing.{line_text, text_of}
 use Rattle.cover_problem.specs.Problem.{ProblemValue}
 use Rattle.poly_texts.specs.Puzzle.{PuzzleValue}
 use Rattle.poly_place.specs.Packings.{packing_problem}
+use Rattle.x_steps.specs.StateValue.{start}
+use Rattle.x_steps.specs.Run as run
 use Rattle.x_texts.specs.Words.{visit_words}
 use Rattle.polylab_engine.specs.Account.{ReportValue}
 use Rattle.polylab_engine.specs.Output.{whole_report, total_lines}
@@ -18,11 +20,12 @@ use Rattle.polylab_engine.specs.Packed.{number_line}
 abbrev pub stopped_line : ℕ → List (List ℕ)
 stopped_line n = codes "first" ∷ decimal n ∷ []
 
--- a report that has the first n visits, and is that of the whole run where there are fewer
+-- a report that has the first n visits, is that of the whole run where there are fewer, and tells of no step after the last of them
 pub record IsFirstReport (n : ℕ) (p : ProblemValue) (r : ReportValue) : Type 0 where
   pub visits : r.visits ≡ take n (whole_report true p).visits
   pub visited : r.visited ≡ length r.visits
   pub whole : r.visited < n → r ≡ whole_report true p
+  pub soon : (k : ℕ) → k < r.steps → length (run.visits p (run.states p k start)) < n
 
 -- the lines after the visits: the totals of a report that has fewer than n, or else that the search stopped there
 abbrev pub cover_end : ℕ → ReportValue → List (List (List ℕ))

@@ -1,7 +1,8 @@
 -- What the program does with an input: what it writes, or the line that refuses it.
 --
 -- Example: `items a`, `option z` is refused by `refused cover 3 UnknownItem line 2` (proofs/OutputExamples.antt).
-use Rattle.std.specs.Prelude.{ℕ, List, [], ◌∷◌, Result, Ok, Err, if◌then◌else◌, decimal, codes, unwrap_or}
+use Rattle.std.specs.Prelude.{ℕ, ◌≡◌, ⊤, List, [], ◌∷◌, Result, Ok, Err, IsErrAnd, if◌then◌else◌, decimal, codes, unwrap_or}
+use Rattle.std.specs.Global.{Vec}
 use Rattle.text_lines.specs.Writing.{line_text}
 use Rattle.cover_problem.specs.declared.fault.Fault.{Fault}
 use Rattle.cover_problem.specs.Faults.{number_of, name_of}
@@ -13,8 +14,12 @@ use Rattle.polylab_engine.specs.declared.job.CoverJob.{CoverJob}
 use Rattle.polylab_engine.specs.declared.job.CoverJob.TheVariants as cover_jobs
 use Rattle.polylab_engine.specs.declared.job.PuzzleJob.{PuzzleJob}
 use Rattle.polylab_engine.specs.declared.job.PuzzleJob.TheVariants as puzzle_jobs
-use Rattle.polylab_engine.specs.declared.answer.JobAnswer.{JobAnswer}
-use Rattle.polylab_engine.specs.declared.answer.JobAnswer.TheVariants.{Text, Refused}
+use Rattle.polylab_engine.specs.declared.job.TextKind.{TextKind}
+use Rattle.polylab_engine.specs.declared.job.TextKind.TheVariants as kinds
+use Rattle.polylab_engine.specs.declared.answer.NoText.{NoText}
+use Rattle.polylab_engine.specs.declared.answer.NoText.TheVariants.{Refused}
+use Rattle.polylab_engine.specs.declared.answer.NoText.TheVariants as no_texts
+use Rattle.polylab_engine.specs.declared.fault.JobFault.TheVariants.{OutOfMemory}
 use Rattle.poly_texts.specs.declared.fault.Fault as puzzle
 use Rattle.poly_texts.specs.Faults as puzzle_faults
 use Rattle.poly_texts.specs.Puzzle.{PuzzleValue}
@@ -34,10 +39,6 @@ use Rattle.x_snapshot.specs.Faults as snapshot_faults
 use Rattle.x_snapshot.specs.Snapshot.{SnapshotValue}
 use Rattle.x_snapshot.specs.Judged.{snapshot_of}
 use Rattle.polylab_engine.specs.Resumed.{resume_output}
-use Rattle.text_lines.specs.declared.refusal.TextRefusal.{TextRefusal}
-use Rattle.text_lines.specs.Answers.{GivesAt}
-use Rattle.debug_script.specs.Input.{raw_lines}
-use Rattle.std.specs.Prelude.{◌≡◌, IfOk}
 
 -- the words of a refused text: what it was to be, the fault's number, its name, and the number of its line
 abbrev pub refusal_words : List ℕ → ℕ → List ℕ → ℕ → List (List ℕ)
@@ -98,14 +99,6 @@ output_of (puzzle_jobs.CountUpTo group) lines = count_up_to_output group
 output_of (puzzle_jobs.OptionsUpTo group) lines = options_up_to_output group
 output_of puzzle_jobs.Debug lines = puzzle_replies lines
 
--- what a job writes of the problem that was read, over the bytes of these commands; or the refusal of the text
-abbrev pub cover_answer : CoverJob → List ℕ → Result ProblemValue (Fault × ℕ) → Result (List ℕ) (List ℕ)
-cover_answer job commands read = covers_of (listing_of job (raw_lines commands)) read
-
--- what a job writes of the puzzle that was read, over the bytes of these commands; or the refusal of the text or of the puzzle
-abbrev pub puzzle_answer : PuzzleJob → List ℕ → Result PuzzleValue (puzzle.Fault × ℕ) → Result (List ℕ) (List ℕ)
-puzzle_answer job commands read = packed_of (output_of job (raw_lines commands)) read
-
 -- what a job on a cover text writes for an input, or the line that refuses it: the debugger's commands follow the text
 abbrev pub cover_outcome : CoverJob → List ℕ → Result (List ℕ) (List ℕ)
 cover_outcome cover_jobs.Debug input = covers_of (debug_output (command_lines input)) (problem_of (problem_text input))
@@ -115,6 +108,11 @@ cover_outcome job input = covers_of (listing_of job []) (problem_of input)
 abbrev pub puzzle_outcome : PuzzleJob → List ℕ → Result (List ℕ) (List ℕ)
 puzzle_outcome puzzle_jobs.Debug input = packed_of (puzzle_replies (command_lines input)) (puzzle_of (problem_text input))
 puzzle_outcome job input = packed_of (output_of job []) (puzzle_of input)
+
+-- what `debug` writes for an input of this kind, or the line that refuses it
+abbrev pub debug_outcome : TextKind → List ℕ → Result (List ℕ) (List ℕ)
+debug_outcome kinds.Cover input = cover_outcome cover_jobs.Debug input
+debug_outcome kinds.Puzzle input = puzzle_outcome puzzle_jobs.Debug input
 
 -- what a job writes for an input, or the line that refuses it
 unfoldable pub job_outcome : Job → List ℕ → Result (List ℕ) (List ℕ)
@@ -143,20 +141,18 @@ bad_reader = line_text (codes "refused" ∷ codes "input" ∷ [])
 abbrev pub bad_writer : List ℕ
 bad_writer = line_text (codes "refused" ∷ codes "output" ∷ [])
 
--- an answer's bytes
-abbrev pub outcome_of : JobAnswer → Result (List ℕ) (List ℕ)
-outcome_of (Text text) = Ok text.items
-outcome_of (Refused line) = Err line.items
+-- a call has this outcome, unless it can't be done
+abbrev pub HasOutcome : Result (Vec ℕ) NoText → Result (List ℕ) (List ℕ) → Type 0
+HasOutcome (Ok text) given = Ok text.items ≡ given
+HasOutcome (Err (Refused line)) given = Err line.items ≡ given
+HasOutcome (Err (no_texts.Fault fault)) given = ⊤
 
--- a call answers with this outcome, unless it has an error
-abbrev pub HasOutcome : {E : Type 0} → Result JobAnswer E → Result (List ℕ) (List ℕ) → Type 0
-HasOutcome result given = IfOk result (λ answer. outcome_of answer ≡ given)
+-- a call finds what was read, or answers the line that refuses it, unless it can't be done
+abbrev pub Finds : {X F : Type 0} → Result X NoText → Result X F → (F → List ℕ) → Type 0
+Finds (Ok x) read refusal = read ≡ Ok x
+Finds (Err (Refused line)) read refusal = IsErrAnd read (λ fault. refusal fault ≡ line.items)
+Finds (Err (no_texts.Fault fault)) read refusal = fault ≡ OutOfMemory
 
--- a call answers what a job makes of a puzzle, over the bytes of these commands, unless it has an error
-abbrev pub AnswersPuzzle : {E : Type 0} → Result JobAnswer E → PuzzleJob → List ℕ → PuzzleValue → Type 0
-AnswersPuzzle result job commands puzzle =
-    (given : PuzzleValue) → given ≡ puzzle → HasOutcome result (puzzle_answer job commands (Ok given))
-
--- what is true of what a text says, or of its first fault, where a reader of the text found this
-abbrev pub ForReading : {X F : Type 0} → Result X (TextRefusal F) → (Result X (F × ℕ) → Type 0) → Type 0
-ForReading {X} {F} found P = (read : Result X (F × ℕ)) → GivesAt (λ x. x) found read → P read
+-- a puzzle whose problem is within the limits
+abbrev pub packable : PuzzleValue → Result PuzzleValue (Unit {0})
+packable p = if is_small (packing_problem p) then Ok p else Err tt

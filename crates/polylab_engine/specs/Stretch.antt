@@ -2,11 +2,11 @@
 --
 -- Example: the cut 4 5 ends a branch at X5, at option 5 after the choice 4. Where 43 steps lead to the end and 30 are asked for it takes 30,
 -- and where 50 are asked for it takes 43. proofs/JobExamples.antt computes it.
-use Rattle.std.specs.Prelude.{ℕ, nat_lt, Bool, Option, Some, List, [], ◌∷◌, if◌then◌else◌}
+use Rattle.std.specs.Prelude.{ℕ, ◌<◌, nat_lt, Bool, Option, Some, List, [], ◌∷◌, length, if◌then◌else◌}
 use Rattle.std.specs.Prelude as prelude
 use Rattle.cover_problem.specs.Problem.{ProblemValue}
 use Rattle.x_steps.specs.StateValue.{StateValue, done}
-use Rattle.x_steps.specs.Run.{states_between}
+use Rattle.x_steps.specs.Run.{states, visits, states_between}
 use Rattle.x_branches.specs.Cut.{cut_state}
 use Rattle.polylab_engine.specs.Account.{Account, ReportValue, account_of, report_of}
 use Rattle.x_steps.specs.declared.state.Label.TheVariants.{Done}
@@ -37,6 +37,10 @@ state_at m n = after m.problem n m.state
 -- as many steps on as are asked for, where that comes first
 abbrev pub stop_from : Option ℕ → MachineValue → List ℕ → StateValue
 stop_from most m end = state_at m (steps_taken most (steps_between m.problem m.state (end_at end)))
+
+-- with fewer of a machine's next steps there are fewer visits than n
+abbrev pub HasFewerBefore : MachineValue → ℕ → ℕ → Type 0
+HasFewerBefore m steps n = (k : ℕ) → k < steps → length (visits m.problem (states m.problem k m.state)) < n
 
 -- a search that has come to `visited` visits stops at s: after as many visits as were asked for, or where a stretch stops
 abbrev pub StopsAt : Option ℕ → Option ℕ → MachineValue → List ℕ → ℕ → StateValue → Type 0

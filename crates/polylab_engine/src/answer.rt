@@ -1,17 +1,17 @@
 //! What a job writes for an input.
-ghost use Rattle.std.specs.Prelude.{◌≡◌, IfOk, IfErr, Ok};
-ghost use Rattle.polylab_engine.specs.Refusals.{IsWantOrPool, NoPool, cover_faults, puzzle_faults, pool_faults};
-ghost use Rattle.text_lines.specs.Answers.{GivesAt};
+ghost use Rattle.std.specs.Prelude.{◌≡◌, ℕ, false, List, [], Ok, IfErr};
 ghost use Rattle.text_lines.specs.Writing.{line_text};
-ghost use Rattle.poly_texts.specs.declared.fault.Fault as puzzle;
 ghost use Rattle.cover_problem.specs.Reading.{problem_of};
 ghost use Rattle.poly_texts.specs.Reading.{puzzle_of};
-ghost use Rattle.debug_script.specs.Input.{raw_lines};
 ghost use Rattle.x_snapshot.specs.Judged.{snapshot_of};
-ghost use Rattle.polylab_engine.specs.Resumed.{resume_output};
-ghost use Rattle.polylab_engine.specs.Outcome.{refusal_words, resumed_of, job_outcome, cover_outcome, puzzle_outcome, listing_of, output_of, HasOutcome, ForReading, cover_answer, puzzle_answer, AnswersPuzzle};
+ghost use Rattle.lab_pool.specs.declared.fault.PoolFault.{PoolFault};
+ghost use Rattle.polylab_engine.specs.declared.job.Job.{Job};
+ghost use Rattle.polylab_engine.specs.declared.job.Job.TheVariants as jobs;
+ghost use Rattle.polylab_engine.specs.Jobs.{takes_commands};
+ghost use Rattle.polylab_engine.specs.Outcome.{refusal_words, cover_refusal, puzzle_refusal, place_refusal, snapshot_refusal};
+ghost use Rattle.polylab_engine.specs.Outcome.{packable, packed_of, job_outcome, listing_of, output_of, HasOutcome, Finds};
+ghost use Rattle.polylab_engine.specs.Refusals.{IsNoTextOf, cover_faults, puzzle_faults, pool_faults};
 ghost use Rattle.shared_words.specs.Answers.{ReturnsItems};
-ghost use Rattle.x_snapshot.specs.Refusals.{TellsFault};
 
 use crate::classes::count_classes;
 use crate::cover::{count_covers, covers, first_covers};
@@ -19,164 +19,159 @@ use crate::fault::JobFault;
 use crate::job::{CoverJob, Job, PuzzleJob};
 use crate::packed::{count, first_packings, options, solve};
 use crate::resumption::resume;
-use crate::tables::TableKind;
 use crate::up_to::{count_up_to, options_up_to, solve_up_to};
 use crate::workers::Workers;
 use cover_problem::{CoverFault, Problem, read_cover};
 use debug_language::write_snapshot_fault;
-use debug_script::split_input;
 use poly_place::{Compiled, PlaceFault, compile};
 use poly_texts::{Puzzle, PuzzleFault, read_puzzle};
 use std::alloc::{AllocError, Global};
 use text_lines::{write_number, write_word};
-use x_snapshot::{Snapshot, SnapshotFault, read_snapshot};
+use x_snapshot::{Snapshot, read_snapshot};
 
-/// The text to write, or the line that refuses the input.
+/// Why there is no text to write.
 #[derive(Drop)]
-pub enum JobAnswer {
-    Text(Vec<u8>),
+pub enum NoText {
+    /// The input is refused by this line.
     Refused(Vec<u8>),
+    /// The job could not be done.
+    Fault(JobFault),
 }
 
-/// What the job writes for an input.
+impl From<JobFault> for NoText {
+    ghost use Rattle.polylab_engine.specs.declared.answer.NoText.TheVariants as no_texts;
+
+    ghost from_gives = { λ fault e. e ≡ no_texts.Fault fault };
+
+    fn from(fault: JobFault) -> NoText {
+        NoText::Fault(fault)
+    }
+}
+
+impl From<AllocError> for NoText {
+    ghost use Rattle.polylab_engine.specs.declared.answer.NoText.TheVariants as no_texts;
+    ghost use Rattle.polylab_engine.specs.declared.fault.JobFault.TheVariants as faults;
+
+    ghost from_gives = { λ _ e. e ≡ no_texts.Fault faults.OutOfMemory };
+
+    fn from(_e: AllocError) -> NoText {
+        NoText::Fault(JobFault::OutOfMemory)
+    }
+}
+
+/// What makes the text that a job writes.
+pub trait Answering {
+    // It can be asked about the job, and what it answers is right.
+    ghost ready: { Self → Job → Type 0 };
+
+    // The faults of workers with which it may end the job for an input.
+    ghost refuses: { Self → Job → List ℕ → PoolFault → Type 0 };
+
+    /// What the job writes for an input, which is let go.
+    fn answer(&self, alloc: Global, job: Job, input: Vec<u8>) -> Result<Vec<u8>, NoText>
+        requires { ready self.now job }
+        ensures outcome { HasOutcome result (job_outcome job input.items) }
+        ensures why { IfErr result (IsNoTextOf (refuses self.now job input.items)) };
+}
+
+/// What a job writes for an input, where no commands follow the input's text. The bytes of the text are let go before anything is
+/// searched.
 #[tactic(auto, unfolding(crate::specs::Outcome::job_outcome))]
-pub fn answer_to<W: Workers>(
+pub fn text_for<W: Workers>(
     alloc: Global,
     job: Job,
     workers: &W,
     input: Vec<u8>,
-) -> Result<JobAnswer, JobFault>
-    requires { W.ready workers.now }
+) -> Result<Vec<u8>, NoText>
+    requires ready { W.ready workers.now }
+    requires whole { takes_commands job ≡ false }
     ensures outcome { HasOutcome result (job_outcome job input.items) }
-    ensures why { IfErr result (IsWantOrPool (pool_faults job (W.refuses workers.now))) }
+    ensures why { IfErr result (IsNoTextOf (pool_faults job (W.refuses workers.now) input.items)) }
 {
     match job {
-        Job::Cover(job) => cover_job::<W>(alloc, workers, job, input),
-        Job::Puzzle(job) => puzzle_job::<W>(alloc, workers, job, input),
-        Job::Resume { steps, list } => resume_answer(alloc, workers.table(), steps, list, input),
-    }
-}
-
-/// What the job writes for an input that is a cover text. The bytes of a text that stands alone are let go before anything is searched;
-/// those of a text with commands are kept, since the commands stand in them.
-fn cover_job<W: Workers>(
-    alloc: Global,
-    workers: &W,
-    job: CoverJob,
-    input: Vec<u8>,
-) -> Result<JobAnswer, JobFault>
-    requires { W.ready workers.now }
-    ensures outcome { HasOutcome result (cover_outcome job input.items) }
-    ensures why { IfErr result (IsWantOrPool (cover_faults job (W.refuses workers.now))) }
-{
-    match job {
-        CoverJob::List | CoverJob::Count | CoverJob::First(_) => {
-            cover_answer::<W>(alloc, workers, job, problem_in(alloc, input), &[])
+        Job::Cover(job) => {
+            let problem = taken_problem(alloc, input)?;
+            cover_text::<W>(alloc, workers, job, &problem)
         }
-        CoverJob::Debug => {
-            // The commands are lent by the input, which lives until the last is answered.
-            let (text, commands) = split_input(&input);
-            cover_answer::<W>(
-                alloc,
-                workers,
-                CoverJob::Debug,
-                read_cover(alloc, text),
-                commands,
-            )
+        Job::Puzzle(job) => {
+            let puzzle = taken_puzzle(alloc, input)?;
+            puzzle_text::<W>(alloc, workers, job, &puzzle)
         }
-    }
-}
-
-/// What the job writes for an input that is a puzzle, whose bytes are let go as those of a cover text are.
-fn puzzle_job<W: Workers>(
-    alloc: Global,
-    workers: &W,
-    job: PuzzleJob,
-    input: Vec<u8>,
-) -> Result<JobAnswer, JobFault>
-    requires { W.ready workers.now }
-    ensures outcome { HasOutcome result (puzzle_outcome job input.items) }
-    ensures why { IfErr result (IsWantOrPool (puzzle_faults job (W.refuses workers.now))) }
-{
-    match job {
-        PuzzleJob::Debug => {
-            let (text, commands) = split_input(&input);
-            puzzle_answer::<W>(
-                alloc,
-                workers,
-                PuzzleJob::Debug,
-                read_puzzle(alloc, text),
-                commands,
-            )
+        Job::Resume { steps, list } => {
+            let snapshot = snapshot_in(alloc, input)?;
+            Ok(resume(alloc, workers.table(), steps, list, snapshot)?)
         }
-        _ => puzzle_answer::<W>(alloc, workers, job, puzzle_in(alloc, input), &[]),
     }
 }
 
 /// The problem of a text, which is let go.
-fn problem_in(alloc: Global, text: Vec<u8>) -> Result<Problem, CoverFault>
-    ensures { GivesAt (λ p. p) result (problem_of text.items) }
+fn taken_problem(alloc: Global, text: Vec<u8>) -> Result<Problem, NoText>
+    ensures { Finds result (problem_of text.items) (λ f. cover_refusal f.0 f.1) }
 {
-    read_cover(alloc, &text)
+    problem_in(alloc, &text)
 }
 
-/// The puzzle of a text, which is let go.
-fn puzzle_in(alloc: Global, text: Vec<u8>) -> Result<Puzzle, PuzzleFault>
-    ensures { GivesAt (λ p. p) result (puzzle_of text.items) }
+/// The problem of a text, or the refusal of the text.
+pub fn problem_in(alloc: Global, text: &[u8]) -> Result<Problem, NoText>
+    ensures { Finds result (problem_of text.now) (λ f. cover_refusal f.0 f.1) }
 {
-    read_puzzle(alloc, &text)
-}
-
-/// The snapshot of a text, which is let go.
-fn snapshot_in(alloc: Global, text: Vec<u8>) -> Result<Snapshot, SnapshotFault>
-    ensures snapshot { IfOk result (λ s. snapshot_of text.items ≡ Ok s) }
-    ensures fault { TellsFault result (snapshot_of text.items) }
-{
-    read_snapshot(alloc, &text)
-}
-
-/// What `resume` writes of the snapshot that a text is, or the refusal of the text.
-fn resume_answer(
-    alloc: Global,
-    table: Option<TableKind>,
-    steps: Option<u64>,
-    list: bool,
-    text: Vec<u8>,
-) -> Result<JobAnswer, JobFault>
-    ensures outcome { HasOutcome result (resumed_of (resume_output steps list) (snapshot_of text.items)) }
-    ensures why { IfErr result (IsWantOrPool NoPool) }
-{
-    match snapshot_in(alloc, text) {
-        Ok(snapshot) => Ok(JobAnswer::Text(resume(alloc, table, steps, list, snapshot)?)),
-        Err(fault) => {
-            let mut line = Vec::new(alloc);
-            write_snapshot_fault(&mut line, fault)?;
-            Ok(JobAnswer::Refused(line))
+    match read_cover(alloc, text) {
+        Ok(problem) => Ok(problem),
+        Err(CoverFault::Fault { fault, line }) => {
+            let (number, name) = (fault.number(), fault.name());
+            Err(NoText::Refused(refusal(alloc, "cover", number, name, line)?))
         }
+        Err(CoverFault::OutOfMemory) => Err(NoText::Fault(JobFault::OutOfMemory)),
     }
 }
 
-/// What the job writes of the problem that was found in a text, or the refusal of the text.
-fn cover_answer<W: Workers>(
-    alloc: Global,
-    workers: &W,
-    job: CoverJob,
-    found: Result<Problem, CoverFault>,
-    commands: &[u8],
-) -> Result<JobAnswer, JobFault>
-    requires { W.ready workers.now }
-    ensures outcome { ForReading found (λ read. HasOutcome result (cover_answer job commands.now read)) }
-    ensures why { IfErr result (IsWantOrPool (cover_faults job (W.refuses workers.now))) }
+/// The puzzle of a text, which is let go.
+fn taken_puzzle(alloc: Global, text: Vec<u8>) -> Result<Puzzle, NoText>
+    ensures { Finds result (puzzle_of text.items) (λ f. puzzle_refusal f.0 f.1) }
 {
-    match found {
-        Ok(problem) => Ok(JobAnswer::Text(cover_text::<W>(
-            alloc, workers, job, &problem, commands,
-        )?)),
-        Err(CoverFault::Fault { fault, line }) => {
+    puzzle_in(alloc, &text)
+}
+
+/// The puzzle of a text, or the refusal of the text.
+pub fn puzzle_in(alloc: Global, text: &[u8]) -> Result<Puzzle, NoText>
+    ensures { Finds result (puzzle_of text.now) (λ f. puzzle_refusal f.0 f.1) }
+{
+    match read_puzzle(alloc, text) {
+        Ok(puzzle) => Ok(puzzle),
+        Err(PuzzleFault::Fault { fault, line }) => {
             let (number, name) = (fault.number(), fault.name());
-            Ok(JobAnswer::Refused(refusal(alloc, "cover", number, name, line)?))
+            Err(NoText::Refused(refusal(alloc, "puzzle", number, name, line)?))
         }
-        Err(CoverFault::OutOfMemory) => Err(JobFault::OutOfMemory),
+        Err(PuzzleFault::OutOfMemory) => Err(NoText::Fault(JobFault::OutOfMemory)),
+    }
+}
+
+/// The puzzle with its problem, or its refusal where that is past the limits.
+pub fn compiled_of<'p>(alloc: Global, puzzle: &'p Puzzle) -> Result<Compiled<'p>, NoText>
+    ensures { Finds result (packable puzzle.now) (λ _. place_refusal) }
+{
+    match compile(alloc, puzzle) {
+        Ok(compiled) => Ok(compiled),
+        // A puzzle is within its own limits; what it compiles to has others, and no line of the text is to blame.
+        Err(PlaceFault::TooManyOptions) => {
+            let line = Vec::from_slice(alloc, b"refused place 1 TooManyOptions\n")?;
+            Err(NoText::Refused(line))
+        }
+        Err(PlaceFault::OutOfMemory) => Err(NoText::Fault(JobFault::OutOfMemory)),
+    }
+}
+
+/// The snapshot of a text, which is let go, or the refusal of the text.
+fn snapshot_in(alloc: Global, text: Vec<u8>) -> Result<Snapshot, NoText>
+    ensures { Finds result (snapshot_of text.items) snapshot_refusal }
+{
+    match read_snapshot(alloc, &text) {
+        Ok(snapshot) => Ok(snapshot),
+        Err(fault) => {
+            let mut line = Vec::new(alloc);
+            write_snapshot_fault(&mut line, fault)?;
+            Err(NoText::Refused(line))
+        }
     }
 }
 
@@ -186,65 +181,35 @@ fn cover_text<W: Workers>(
     workers: &W,
     job: CoverJob,
     problem: &Problem,
-    commands: &[u8],
-) -> Result<Vec<u8>, JobFault>
-    requires { W.ready workers.now }
-    ensures text { ReturnsItems result (listing_of job (raw_lines commands.now) problem.now) }
-    ensures why { IfErr result (IsWantOrPool (cover_faults job (W.refuses workers.now))) }
+) -> Result<Vec<u8>, NoText>
+    requires ready { W.ready workers.now }
+    requires whole { takes_commands (jobs.Cover job) ≡ false }
+    ensures text { HasOutcome result (Ok (listing_of job [] problem.now)) }
+    ensures why { (input : List ℕ) → IfErr result (IsNoTextOf (cover_faults job (W.refuses workers.now) input)) }
 {
     match job {
-        CoverJob::List => covers::<W>(alloc, workers, problem),
-        CoverJob::Count => count_covers::<W>(alloc, workers, problem),
+        CoverJob::List => Ok(covers::<W>(alloc, workers, problem)?),
+        CoverJob::Count => Ok(count_covers::<W>(alloc, workers, problem)?),
         CoverJob::First(first) => Ok(first_covers(alloc, problem, workers.table(), first)?),
-        CoverJob::Debug => workers.replies(alloc, problem, commands),
+        // Commands follow the text of `debug`, as `whole` says.
+        CoverJob::Debug => unreachable!(),
     }
 }
 
-/// What the job writes of the puzzle that was found in a text, or the refusal of the text or of the puzzle.
-fn puzzle_answer<W: Workers>(
-    alloc: Global,
-    workers: &W,
-    job: PuzzleJob,
-    found: Result<Puzzle, PuzzleFault>,
-    commands: &[u8],
-) -> Result<JobAnswer, JobFault>
-    requires { W.ready workers.now }
-    ensures outcome { ForReading found (λ read. HasOutcome result (puzzle_answer job commands.now read)) }
-    ensures why { IfErr result (IsWantOrPool (puzzle_faults job (W.refuses workers.now))) }
-{
-    match found {
-        Ok(puzzle) => packed_answer::<W>(alloc, workers, job, &puzzle, commands),
-        Err(PuzzleFault::Fault { fault, line }) => {
-            let (number, name) = (fault.number(), fault.name());
-            Ok(JobAnswer::Refused(refusal(alloc, "puzzle", number, name, line)?))
-        }
-        Err(PuzzleFault::OutOfMemory) => Err(JobFault::OutOfMemory),
-    }
-}
-
-/// What the job writes of a puzzle, or its refusal.
-fn packed_answer<W: Workers>(
+/// What the job writes of a puzzle, or the refusal of a puzzle whose problem is past the limits.
+fn puzzle_text<W: Workers>(
     alloc: Global,
     workers: &W,
     job: PuzzleJob,
     puzzle: &Puzzle,
-    commands: &[u8],
-) -> Result<JobAnswer, JobFault>
-    requires { W.ready workers.now }
-    ensures answer { AnswersPuzzle result job commands.now puzzle.now }
-    ensures why { IfErr result (IsWantOrPool (puzzle_faults job (W.refuses workers.now))) }
+) -> Result<Vec<u8>, NoText>
+    requires ready { W.ready workers.now }
+    requires whole { takes_commands (jobs.Puzzle job) ≡ false }
+    ensures text { HasOutcome result (packed_of (output_of job []) (Ok puzzle.now)) }
+    ensures why { (input : List ℕ) → IfErr result (IsNoTextOf (puzzle_faults job (W.refuses workers.now) input)) }
 {
-    match compile(alloc, puzzle) {
-        Ok(compiled) => Ok(JobAnswer::Text(packed_text::<W>(
-            alloc, workers, job, &compiled, commands,
-        )?)),
-        // A puzzle is within its own limits; what it compiles to has others, and no line of the text is to blame.
-        Err(PlaceFault::TooManyOptions) => {
-            let line = Vec::from_slice(alloc, b"refused place 1 TooManyOptions\n")?;
-            Ok(JobAnswer::Refused(line))
-        }
-        Err(PlaceFault::OutOfMemory) => Err(JobFault::OutOfMemory),
-    }
+    let compiled = compiled_of(alloc, puzzle)?;
+    packed_text::<W>(alloc, workers, job, &compiled)
 }
 
 /// What the job writes of a puzzle whose problem is within the limits.
@@ -253,22 +218,23 @@ fn packed_text<W: Workers>(
     workers: &W,
     job: PuzzleJob,
     compiled: &Compiled<'_>,
-    commands: &[u8],
-) -> Result<Vec<u8>, JobFault>
-    requires { W.ready workers.now }
-    ensures text { ReturnsItems result (output_of job (raw_lines commands.now) compiled.now) }
-    ensures why { IfErr result (IsWantOrPool (puzzle_faults job (W.refuses workers.now))) }
+) -> Result<Vec<u8>, NoText>
+    requires ready { W.ready workers.now }
+    requires whole { takes_commands (jobs.Puzzle job) ≡ false }
+    ensures text { HasOutcome result (Ok (output_of job [] compiled.now)) }
+    ensures why { (input : List ℕ) → IfErr result (IsNoTextOf (puzzle_faults job (W.refuses workers.now) input)) }
 {
     match job {
-        PuzzleJob::Solve => solve::<W>(alloc, workers, compiled),
+        PuzzleJob::Solve => Ok(solve::<W>(alloc, workers, compiled)?),
         PuzzleJob::First(first) => { Ok(first_packings(alloc, compiled, workers.table(), first)?) }
-        PuzzleJob::Count => count::<W>(alloc, workers, compiled),
-        PuzzleJob::Classes => count_classes::<W>(alloc, workers, compiled),
+        PuzzleJob::Count => Ok(count::<W>(alloc, workers, compiled)?),
+        PuzzleJob::Classes => Ok(count_classes::<W>(alloc, workers, compiled)?),
         PuzzleJob::Options => Ok(options(alloc, compiled)?),
-        PuzzleJob::SolveUpTo(group) => solve_up_to::<W>(alloc, workers, compiled, group),
-        PuzzleJob::CountUpTo(group) => count_up_to::<W>(alloc, workers, compiled, group),
+        PuzzleJob::SolveUpTo(group) => Ok(solve_up_to::<W>(alloc, workers, compiled, group)?),
+        PuzzleJob::CountUpTo(group) => Ok(count_up_to::<W>(alloc, workers, compiled, group)?),
         PuzzleJob::OptionsUpTo(group) => Ok(options_up_to(alloc, compiled, group)?),
-        PuzzleJob::Debug => workers.replies(alloc, compiled.problem(), commands),
+        // As for `cover_text`.
+        PuzzleJob::Debug => unreachable!(),
     }
 }
 

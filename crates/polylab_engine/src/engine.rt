@@ -1,24 +1,23 @@
 //! From the input's bytes to the output's.
-ghost use Rattle.std.specs.Prelude.{◌≡◌, IfErr};
+ghost use Rattle.std.specs.Prelude.{◌≡◌, false, IfErr};
 ghost use Rattle.std.specs.Thread.{IsSync};
 ghost use Rattle.byte_streams.specs.Stream.{Takes};
-ghost use Rattle.shared_words.specs.Answers.{Returns, ReturnsItems};
-ghost use Rattle.debug_script.specs.Input.{raw_lines};
-ghost use Rattle.polylab_engine.specs.Debugged.{debug_output};
+ghost use Rattle.shared_words.specs.Answers.{Returns};
+ghost use Rattle.debug_script.specs.Refusals.{MayRefuse};
+ghost use Rattle.polylab_engine.specs.Jobs.{takes_commands};
+ghost use Rattle.polylab_engine.specs.Outcome.{debug_outcome, no_memory, HasOutcome};
 ghost use Rattle.polylab_engine.specs.Output.{whole_report};
-ghost use Rattle.polylab_engine.specs.Refusals.{IsWantOrPool, IsEndingOf, NoPool, TellsAtFour, pool_faults};
-ghost use Rattle.debug_script.specs.Refusals.{MayRefuse, MayEnd};
+ghost use Rattle.polylab_engine.specs.Refusals.{IsWantOrPool, IsNoTextOf, IsEndingOf, MayEndBy, MayOfInput, TellsAtFour, pool_faults};
 ghost use Rattle.polylab_engine.specs.Ending.{EndsRun, IsTold, IsProgramRun, status_of};
 
-use crate::answer::{JobAnswer, answer_to};
-use crate::debugger::debug;
+use crate::answer::{Answering, NoText};
+use crate::debugger::replies_for;
 use crate::fault::{JobFault, pool_line};
-use crate::job::Job;
+use crate::job::{Job, TextKind};
 use crate::report::Report;
 use crate::search::search_together;
-use crate::workers::{Alone, Team, Together, Workers};
+use crate::workers::{Alone, Team, Together};
 use byte_streams::{InputFault, Sink, Source, read_whole, write_whole};
-use cover_links::LinkTable;
 use cover_problem::{Lists, Problem};
 use lab_pool::{Gate, PoolFault};
 use std::alloc::Global;
@@ -90,30 +89,30 @@ fn tell_ending<F: Sink>(faults: &mut F, ending: &RunEnding)
 }
 
 /// Reads the whole input, does the job, and writes the whole output.
-fn work<W: Workers, I: Source, O: Sink>(
+fn work<A: Answering, I: Source, O: Sink>(
     alloc: Global,
     job: Job,
-    workers: &W,
+    answers: &A,
     reader: &mut I,
     writer: &mut O,
 ) -> RunEnding
-    requires { W.ready workers.now }
+    requires { A.ready answers.now job }
     ensures ends { EndsRun I.stream O.stream job reader.old reader.new writer.old writer.new result }
-    ensures why { IsEndingOf (pool_faults job (W.refuses workers.now)) result }
+    ensures why { IsEndingOf (MayOfInput (A.refuses answers.now job) (I.stream reader.old)) result }
 {
     let bytes = match read_whole(alloc, reader) {
         Ok(bytes) => bytes,
         Err(InputFault::OutOfMemory) => return RunEnding::OutOfMemory,
         Err(_) => return RunEnding::Unread,
     };
-    match answer_to(alloc, job, workers, bytes) {
+    match answers.answer(alloc, job, bytes) {
         // Nothing is written before the whole answer is there, so that no fault leaves half of it.
-        Ok(JobAnswer::Text(text)) => match write_whole(writer, &text) {
+        Ok(text) => match write_whole(writer, &text) {
             Ok(()) => RunEnding::Written,
             Err(_) => RunEnding::Unwritten,
         },
-        Ok(JobAnswer::Refused(line)) => RunEnding::Refused(line),
-        Err(fault) => RunEnding::from(fault),
+        Err(NoText::Refused(line)) => RunEnding::Refused(line),
+        Err(NoText::Fault(fault)) => RunEnding::from(fault),
     }
 }
 
@@ -125,25 +124,25 @@ fn work<W: Workers, I: Source, O: Sink>(
 /// these are, or what the search of its snapshot comes to from there on. It is the same for every number of workers
 /// and every gate; a gate sees the acts of workers who share a search. At 3 and 4 nothing is written. `IsProgramRun` of
 /// `specs/Ending.antt` says all this, fact by fact.
-fn run<W: Workers, I: Source, O: Sink, F: Sink>(
+fn run<A: Answering, I: Source, O: Sink, F: Sink>(
     alloc: Global,
     job: Job,
-    workers: &W,
+    answers: &A,
     reader: &mut I,
     writer: &mut O,
     faults: &mut F,
 ) -> u8
-    requires { W.ready workers.now }
+    requires { A.ready answers.now job }
     ensures run { IsProgramRun job (I.stream reader.old) (I.stream reader.new) (O.stream writer.old) (O.stream writer.new)
         (F.stream faults.old) (F.stream faults.new) result }
-    ensures why { TellsAtFour result F.stream (pool_faults job (W.refuses workers.now)) faults.old faults.new }
+    ensures why { TellsAtFour result F.stream (MayOfInput (A.refuses answers.now job) (I.stream reader.old)) faults.old faults.new }
 {
-    let ending = work(alloc, job, workers, reader, writer);
+    let ending = work(alloc, job, answers, reader, writer);
     tell_ending(faults, &ending);
     status(&ending)
 }
 
-/// A run by one worker, which returns.
+/// A run by one worker, which returns. The debugger's commands may ask for more workers, so it takes none.
 pub fn run_alone<I: Source, O: Sink, F: Sink>(
     alloc: Global,
     job: Job,
@@ -152,14 +151,15 @@ pub fn run_alone<I: Source, O: Sink, F: Sink>(
     writer: &mut O,
     faults: &mut F,
 ) -> u8
+    requires { takes_commands job ≡ false }
     ensures run { IsProgramRun job (I.stream reader.old) (I.stream reader.new) (O.stream writer.old) (O.stream writer.new)
         (F.stream faults.old) (F.stream faults.new) result }
-    ensures why { TellsAtFour result F.stream (pool_faults job NoPool) faults.old faults.new }
+    ensures memory { result ≡ 4 → Takes (F.stream faults.old) (F.stream faults.new) no_memory }
 {
     run(alloc, job, worker, reader, writer, faults)
 }
 
-/// A run by workers who share its search.
+/// A run by workers who share its search, or as commands ask for them.
 pub fn run_together<R: Threads + Wait + Sync, G: Gate, I: Source, O: Sink, F: Sink>(
     alloc: Global,
     job: Job,
@@ -170,7 +170,8 @@ pub fn run_together<R: Threads + Wait + Sync, G: Gate, I: Source, O: Sink, F: Si
 ) -> u8
     ensures run { IsProgramRun job (I.stream reader.old) (I.stream reader.new) (O.stream writer.old) (O.stream writer.new)
         (F.stream faults.old) (F.stream faults.new) result }
-    ensures why { TellsAtFour result F.stream (pool_faults job (MayRefuse crew.now.count)) faults.old faults.new }
+    ensures why { TellsAtFour result F.stream (MayOfInput (pool_faults job (MayRefuse crew.now.count)) (I.stream reader.old))
+        faults.old faults.new }
 {
     // Only here is it known that the threads may wait: `run` calls the closures by their contracts, and stays a call that returns.
     let search = |alloc: Global, problem: &Problem, keeps: bool| -> Result<Report<Lists>, JobFault>
@@ -179,12 +180,12 @@ pub fn run_together<R: Threads + Wait + Sync, G: Gate, I: Source, O: Sink, F: Si
         ensures report { Returns result (whole_report keeps problem.now) }
         ensures why { IfErr result (IsWantOrPool (MayRefuse crew.entry.now.count)) }
     { search_together(alloc, crew, problem, keeps) };
-    let replies = |alloc: Global, problem: &Problem, commands: &[u8]| -> Result<Vec<u8>, JobFault>
+    let replies = |alloc: Global, kind: TextKind, input: &[u8]| -> Result<Vec<u8>, NoText>
         requires threads { IsSync R.row }
         requires gate { IsSync G.row }
-        ensures text { ReturnsItems result (debug_output (raw_lines commands.now) problem.now) }
-        ensures why { IfErr result (IsWantOrPool MayEnd) }
-    { debug::<LinkTable, R, G>(crew.rt, alloc, problem, commands, crew.gate) };
+        ensures outcome { HasOutcome result (debug_outcome kind input.now) }
+        ensures why { IfErr result (IsNoTextOf (MayEndBy input.now)) }
+    { replies_for(crew.rt, alloc, kind, input, crew.gate) };
     run(
         alloc,
         job,

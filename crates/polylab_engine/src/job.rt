@@ -1,6 +1,6 @@
 //! The jobs.
 ghost use Rattle.std.specs.Prelude.{◌≡◌};
-ghost use Rattle.polylab_engine.specs.Jobs.{is_first, takes_commands};
+ghost use Rattle.polylab_engine.specs.Jobs.{is_first, debugged, takes_commands};
 
 use poly_place::Group;
 
@@ -51,6 +51,15 @@ pub enum PuzzleJob {
     Debug,
 }
 
+/// What stands before the commands of `debug`.
+#[derive(Clone, Copy, Debug, PartialEq, Eq)]
+pub enum TextKind {
+    /// A cover text.
+    Cover,
+    /// A puzzle.
+    Puzzle,
+}
+
 impl Job {
     /// Whether it stops at the first ones, which one worker finds.
     pub fn is_first(self) -> bool
@@ -62,13 +71,21 @@ impl Job {
         )
     }
 
+    /// The kind of text that commands follow, if it answers commands.
+    pub fn debugged(self) -> Option<TextKind>
+        ensures { result ≡ debugged self }
+    {
+        match self {
+            Job::Cover(CoverJob::Debug) => Some(TextKind::Cover),
+            Job::Puzzle(PuzzleJob::Debug) => Some(TextKind::Puzzle),
+            _ => None,
+        }
+    }
+
     /// Whether it answers commands, which follow the input's text.
     pub fn takes_commands(self) -> bool
         ensures { result ≡ takes_commands self }
     {
-        matches!(
-            self,
-            Job::Cover(CoverJob::Debug) | Job::Puzzle(PuzzleJob::Debug)
-        )
+        self.debugged().is_some()
     }
 }

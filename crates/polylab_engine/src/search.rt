@@ -65,7 +65,8 @@ fn count_by<T: Table>(
     Ok(Report::of_counts(alloc, counts))
 }
 
-/// The report of one worker up to the visit of this number, or of the whole run where it has fewer. It keeps the visits.
+/// The report of one worker up to the visit of this number, or of the whole run where it has fewer. It keeps the visits, and takes no
+/// step after the last of them.
 pub fn search_first<V: Visits>(
     alloc: Global,
     problem: &Problem,

@@ -1,12 +1,14 @@
 //! A search by one of the tables. Where none was asked for it may go on by the other one.
-ghost use Rattle.std.specs.Prelude.{◌≡◌, IfOk, IfSome};
+ghost use Rattle.std.specs.Prelude.{◌≡◌, Option, IfOk, IfSome};
+ghost use Rattle.std.specs.Option.{ForSome};
 ghost use Rattle.shared_words.specs.Answers.{Returns};
 ghost use Rattle.cover_problem.specs.Problem.{IsProblem};
 ghost use Rattle.x_steps.specs.StateValue.{start};
 ghost use Rattle.x_steps.specs.StateView.{state_value, IsState};
 ghost use Rattle.x_steps.specs.Steps.{Fits};
 ghost use Rattle.x_steps.specs.Resume.{position};
-ghost use Rattle.polylab_engine.specs.Searcher.{machine_value, stands};
+ghost use Rattle.polylab_engine.specs.declared.tables.TableKind.{TableKind};
+ghost use Rattle.polylab_engine.specs.Searcher.{machine_value, stands, kind_of, HasTable};
 
 use crate::tables::{TableKind, has_few_words};
 use cover_bits::{BitTable, has_room};
@@ -125,7 +127,8 @@ fn any_at<'p>(
     state: &State,
 ) -> Result<AnyMachine<'p>, AllocError>
     requires { IsState problem.now state.now }
-    ensures { IfOk result (λ m. machine_value m ≡ position problem.now (state_value state.now)) }
+    ensures position { IfOk result (λ m. machine_value m ≡ position problem.now (state_value state.now)) }
+    ensures kind { IfOk result (λ m. ForSome table (λ kind. kind_of m ≡ kind)) }
 {
     match table {
         None => first_preferred(alloc, problem, state),
@@ -148,7 +151,8 @@ impl<'p> Searcher<'p> {
         state: &State,
     ) -> Result<Searcher<'p>, AllocError>
         requires { IsState problem.now state.now }
-        ensures { IfOk result (λ s. stands s ≡ position problem.now (state_value state.now)) }
+        ensures position { IfOk result (λ s. stands s ≡ position problem.now (state_value state.now)) }
+        ensures table { IfOk result (HasTable table) }
     {
         let machine = any_at(alloc, problem, table, state)?;
         Ok(Searcher {
@@ -163,7 +167,8 @@ impl<'p> Searcher<'p> {
         problem: &'p Problem,
         table: Option<TableKind>,
     ) -> Result<Searcher<'p>, AllocError>
-        ensures { IfOk result (λ s. stands s ≡ position problem.now start) }
+        ensures position { IfOk result (λ s. stands s ≡ position problem.now start) }
+        ensures table { IfOk result (HasTable table) }
     {
         let state = first_state(alloc);
         Searcher::at(alloc, problem, table, &state)
@@ -171,7 +176,8 @@ impl<'p> Searcher<'p> {
 
     /// Goes on by the table that is preferred from here on, where none was asked for.
     pub fn ask_again(&mut self, alloc: Global)
-        ensures { stands self.new ≡ stands self.old }
+        ensures position { stands self.new ≡ stands self.old }
+        ensures table { (asked : Option TableKind) → HasTable asked self.old → HasTable asked self.new }
     {
         if !self.is_free {
             return;

@@ -6,7 +6,7 @@ ghost use Rattle.x_steps.specs.Steps.{Fits};
 ghost use Rattle.x_steps.specs.Walk.{IsAtCut, IsWalkOf, CountsHaveRoom};
 ghost use Rattle.x_branches.specs.RunOrder.{ComesBefore};
 ghost use Rattle.polylab_engine.specs.Account.{empty_account};
-ghost use Rattle.polylab_engine.specs.Stretch.{end_at, account_from, report_from, IsAtEnd, StopsAt, state_at};
+ghost use Rattle.polylab_engine.specs.Stretch.{end_at, account_from, report_from, IsAtEnd, StopsAt, HasFewerBefore, state_at};
 ghost use Rattle.polylab_engine.specs.Searcher.{stands};
 
 use crate::report::Report;
@@ -108,6 +108,7 @@ fn walk_to_stop<V: Visits>(
     ensures stop { OnOk result
         (StopsAt first most (stands searcher.old) end.now tally.new.visited (stands searcher.new).state) }
     ensures first { OnOk result (ForSome first (λ n. tally.new.visited ≤ n)) }
+    ensures soon { OnOk result (ForSome first (λ n. HasFewerBefore (stands searcher.old) tally.new.steps n)) }
     ensures fits { OnOk result (Fits (stands searcher.old).problem (stands searcher.new).state) }
     ensures account { OnOk result (tally.new ≡ account_from keeps (stands searcher.old) (stands searcher.new).state) }
 {
@@ -157,6 +158,7 @@ pub fn search_on<V: Visits>(
     ensures stop { IfOk result (λ r.
         StopsAt first most (stands searcher.entry) end.now r.0.visited (state_value r.1)) }
     ensures first { IfOk result (λ r. ForSome first (λ n. r.0.visited ≤ n)) }
+    ensures soon { IfOk result (λ r. ForSome first (λ n. HasFewerBefore (stands searcher.entry) r.0.steps n)) }
     ensures fits { IfOk result (λ r. Fits (stands searcher.entry).problem (state_value r.1)) }
     ensures report { IfOk result (λ r. r.0 ≡ report_from keeps (stands searcher.entry) (state_value r.1)) }
 {

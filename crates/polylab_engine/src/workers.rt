@@ -1,19 +1,20 @@
 //! Who takes a run.
-ghost use Rattle.shared_words.specs.Answers.{Returns, ReturnsItems};
-ghost use Rattle.debug_script.specs.Input.{raw_lines};
-ghost use Rattle.polylab_engine.specs.Debugged.{debug_output};
+ghost use Rattle.shared_words.specs.Answers.{Returns};
 ghost use Rattle.polylab_engine.specs.Output.{whole_report};
-ghost use Rattle.polylab_engine.specs.Refusals.{IsWantOrPool, NoPool};
-ghost use Rattle.debug_script.specs.Refusals.{MayRefuse, MayEnd};
-ghost use Rattle.std.specs.Prelude.{true, IfErr};
+ghost use Rattle.polylab_engine.specs.Refusals.{IsWantOrPool, IsNoTextOf, MayEndBy, NoPool, pool_faults};
+ghost use Rattle.debug_script.specs.Refusals.{MayRefuse};
+ghost use Rattle.polylab_engine.specs.Jobs.{takes_commands};
+ghost use Rattle.polylab_engine.specs.Outcome.{debug_outcome, HasOutcome};
+ghost use Rattle.std.specs.Prelude.{◌≡◌, true, false, IfErr};
 ghost use Rattle.lab_pool.specs.declared.fault.PoolFault.{PoolFault};
 
+use crate::answer::{Answering, NoText, text_for};
 use crate::fault::JobFault;
+use crate::job::{Job, TextKind};
 use crate::report::Report;
 use crate::search::{count_alone, search_alone};
 use crate::tables::TableKind;
 use cover_problem::{Lists, Problem};
-use lab_pool::PoolFault;
 use std::alloc::Global;
 use x_texts::VisitText;
 
@@ -30,7 +31,7 @@ pub struct Team<'a, R, G> {
     pub table: Option<TableKind>,
 }
 
-/// Who takes a problem's run, whole or by commands.
+/// Who takes a problem's run.
 pub trait Workers {
     // They can be called, and what they answer is right.
     ghost ready: { Self → Type 0 };
@@ -57,21 +58,9 @@ pub trait Workers {
         requires { ready self.now }
         ensures report { Returns result (whole_report true problem.now) }
         ensures why { IfErr result (IsWantOrPool (refuses self.now)) };
-
-    /// What commands over a problem are answered, from the start of its run on.
-    fn replies(
-        &self,
-        alloc: Global,
-        problem: &Problem,
-        commands: &[u8],
-    ) -> Result<Vec<u8>, JobFault>
-        requires { ready self.now }
-        ensures text { ReturnsItems result (debug_output (raw_lines commands.now) problem.now) }
-        ensures why { IfErr result (IsWantOrPool MayEnd) };
 }
 
-/// One worker, whose calls return: it takes a machine through the run, in memory that doesn't grow with the run. It has no threads
-/// for commands.
+/// One worker, whose calls return: it takes a machine through the run, in memory that doesn't grow with the run.
 #[derive(Drop)]
 pub struct Alone {
     /// The table that was asked for, if one was; else a short search chooses it.
@@ -105,16 +94,6 @@ impl Workers for Alone {
     fn list(&self, alloc: Global, problem: &Problem) -> Result<Report<VisitText>, JobFault> {
         Ok(search_alone::<VisitText>(alloc, problem, self.table, true)?)
     }
-
-    fn replies(
-        &self,
-        _alloc: Global,
-        _problem: &Problem,
-        _commands: &[u8],
-    ) -> Result<Vec<u8>, JobFault> {
-        // No words ask for this: `polylab_line` hands `debug` to workers on threads.
-        Err(JobFault::Pool(PoolFault::NoThread))
-    }
 }
 
 /// Workers on threads, by what calls them: a closure may wait where the function that makes it may.
@@ -122,19 +101,17 @@ impl Workers for Alone {
 pub struct Together<S, D> {
     pub table: Option<TableKind>,
     pub count: u32,
+    /// Shares the run of a problem.
     pub search: S,
+    /// Answers the commands that follow a text.
     pub replies: D,
 }
 
-impl<
-    S: Fn(Global, &Problem, bool) -> Result<Report<Lists>, JobFault>,
-    D: Fn(Global, &Problem, &[u8]) -> Result<Vec<u8>, JobFault>,
-> Workers for Together<S, D> {
-    ghost ready = { λ w. S.IsAlwaysCallable w.search × D.IsAlwaysCallable w.replies
+impl<S: Fn(Global, &Problem, bool) -> Result<Report<Lists>, JobFault>, D> Workers
+    for Together<S, D> {
+    ghost ready = { λ w. S.IsAlwaysCallable w.search
         × ((a : _) (p : _) (k : _) (r : _) → S.post w.search a p k r → Returns r (whole_report k p.now))
-        × ((a : _) (p : _) (k : _) (r : _) → S.post w.search a p k r → IfErr r (IsWantOrPool (MayRefuse w.count)))
-        × ((a : _) (p : _) (c : _) (r : _) → D.post w.replies a p c r → ReturnsItems r (debug_output (raw_lines c.now) p.now))
-        × ((a : _) (p : _) (c : _) (r : _) → D.post w.replies a p c r → IfErr r (IsWantOrPool MayEnd)) };
+        × ((a : _) (p : _) (k : _) (r : _) → S.post w.search a p k r → IfErr r (IsWantOrPool (MayRefuse w.count))) };
 
     ghost refuses = { λ w. MayRefuse w.count };
 
@@ -156,13 +133,35 @@ impl<
         let report = (self.search)(alloc, problem, true)?;
         Ok(report.told(alloc)?)
     }
+}
 
-    fn replies(
-        &self,
-        alloc: Global,
-        problem: &Problem,
-        commands: &[u8],
-    ) -> Result<Vec<u8>, JobFault> {
-        (self.replies)(alloc, problem, commands)
+impl Answering for Alone {
+    ghost ready = { λ _ job. takes_commands job ≡ false };
+
+    ghost refuses = { λ _ job. pool_faults job NoPool };
+
+    fn answer(&self, alloc: Global, job: Job, input: Vec<u8>) -> Result<Vec<u8>, NoText> {
+        text_for(alloc, job, self, input)
+    }
+}
+
+impl<
+    S: Fn(Global, &Problem, bool) -> Result<Report<Lists>, JobFault>,
+    D: Fn(Global, TextKind, &[u8]) -> Result<Vec<u8>, NoText>,
+> Answering for Together<S, D> {
+    ghost ready = { λ w _. S.IsAlwaysCallable w.search × D.IsAlwaysCallable w.replies
+        × ((a : _) (p : _) (k : _) (r : _) → S.post w.search a p k r → Returns r (whole_report k p.now))
+        × ((a : _) (p : _) (k : _) (r : _) → S.post w.search a p k r → IfErr r (IsWantOrPool (MayRefuse w.count)))
+        × ((a : _) (k : _) (i : _) (r : _) → D.post w.replies a k i r → HasOutcome r (debug_outcome k i.now))
+        × ((a : _) (k : _) (i : _) (r : _) → D.post w.replies a k i r → IfErr r (IsNoTextOf (MayEndBy i.now))) };
+
+    ghost refuses = { λ w job. pool_faults job (MayRefuse w.count) };
+
+    fn answer(&self, alloc: Global, job: Job, input: Vec<u8>) -> Result<Vec<u8>, NoText> {
+        match job.debugged() {
+            // The commands stand in the input, which lives until the last is answered.
+            Some(kind) => (self.replies)(alloc, kind, &input),
+            None => text_for(alloc, job, self, input),
+        }
     }
 }

@@ -5,5 +5,5 @@ mod exit;
 mod help;
 mod line;
 
-pub use exit::status;
+pub use exit::{Threading, do_alone, do_together, tell_no_job};
 pub use line::{LineFault, Request, parse_line};

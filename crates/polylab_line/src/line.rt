@@ -3,7 +3,7 @@
 ghost use Rattle.std.specs.Prelude.{◌≡◌, ◌≤◌, IfOk, IsTrue};
 ghost use Rattle.shared_words.specs.Workers.{most_workers};
 ghost use Rattle.polylab_engine.specs.Jobs.{is_first};
-ghost use Rattle.polylab_line.specs.Line.{status_of};
+ghost use Rattle.polylab_line.specs.Line.{is_alone, status_of};
 
 use crate::help::{self, JobHelp};
 use clap::error::ErrorKind;
@@ -37,6 +37,15 @@ pub enum LineFault {
     /// There is no memory to read the words.
     #[error("out of memory")]
     OutOfMemory,
+}
+
+impl Request {
+    /// Whether one worker does the job without threads. Commands may ask for more workers, so they need threads.
+    pub fn is_alone(&self) -> bool
+        ensures { result ≡ is_alone self.now }
+    {
+        self.workers == 1 && !self.job.takes_commands()
+    }
 }
 
 impl LineFault {

@@ -2,7 +2,7 @@
 
 use byte_streams::Watched;
 use lab_pool::Gate;
-use polylab_line::{LineFault, Request, status};
+use polylab_line::{LineFault, Request, Threading, do_alone, do_together, tell_no_job};
 use std::alloc::Global;
 use std::io::Read;
 use std::sync::Wait;
@@ -33,15 +33,17 @@ pub fn ending_under<R: Threads + Wait + Sync, G: Gate, I: Read + Drop>(
 ) -> Ending {
     let mut written = Vec::new(alloc);
     let mut told = Vec::new(alloc);
-    let status = status(
-        rt,
-        alloc,
-        request,
-        gate,
-        &mut Watched::reader(reader),
-        &mut Watched::writer(&mut written),
-        &mut Watched::writer(&mut told),
-    );
+    let reader = &mut Watched::reader(reader);
+    let writer = &mut Watched::writer(&mut written);
+    let faults = &mut Watched::writer(&mut told);
+    let status = match request {
+        Err(fault) => tell_no_job(&fault, writer, faults),
+        Ok(asked) if asked.is_alone() => do_alone(alloc, asked, reader, writer, faults),
+        Ok(asked) => {
+            let threading = Threading { rt, gate };
+            do_together(&threading, alloc, asked, reader, writer, faults)
+        }
+    };
     Ending {
         status,
         written,

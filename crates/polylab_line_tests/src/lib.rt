@@ -10,4 +10,6 @@ mod request;
 #[cfg(test)]
 mod stream_tests;
 #[cfg(test)]
+mod table_tests;
+#[cfg(test)]
 mod worker_tests;

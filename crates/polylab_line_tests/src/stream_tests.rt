@@ -6,7 +6,7 @@ use byte_streams::Watched;
 use drawn_problems::SMALL;
 use lab_pool::NoGate;
 use polylab_engine::{CoverJob, Job};
-use polylab_line::status;
+use polylab_line::do_alone;
 use std::alloc::Global;
 use std::io::{self, ErrorKind, Read, Write};
 use std::sync::Wait;
@@ -98,17 +98,15 @@ fn a_comment_without_end_is_refused(rt: HostRuntime) {
 }
 
 /// The status of `cover` on the small problem, which it writes to a writer.
-fn status_into<R: Threads + Wait + Sync, O: Write + Drop>(
-    rt: &R,
-    alloc: Global,
-    writer: O,
-    told: &mut Vec<u8>,
-) -> u8 {
-    status(
-        rt,
+fn status_into<O: Write + Drop>(alloc: Global, writer: O, told: &mut Vec<u8>) -> u8 {
+    let asked = alone(Job::Cover(CoverJob::List));
+    if !asked.is_alone() {
+        // This is no status of the program.
+        return u8::MAX;
+    }
+    do_alone(
         alloc,
-        Ok(alone(Job::Cover(CoverJob::List))),
-        &NoGate,
+        asked,
         &mut Watched::reader(SMALL.as_bytes()),
         &mut Watched::writer(writer),
         &mut Watched::writer(told),
@@ -130,19 +128,19 @@ fn is_begun(taken: &[u8], left: usize) -> bool {
 }
 
 /// Whether a writer that takes so many bytes of the small problem's covers gets them, and any other than all of them are told.
-fn is_broken_after<R: Threads + Wait + Sync>(rt: &R, alloc: Global, left: usize) -> bool {
+fn is_broken_after(alloc: Global, left: usize) -> bool {
     let mut told: Vec<u8> = Vec::new(alloc);
     let mut writer = Takes {
         left,
         taken: Vec::new(alloc),
     };
-    let status = status_into(rt, alloc, &mut writer, &mut told);
+    let status = status_into(alloc, &mut writer, &mut told);
     is_begun(&writer.taken, left) && is_right_after(left, status, &told)
 }
 
 #[test]
 fn a_broken_writer_is_told(rt: HostRuntime) {
     for left in 0..SMALL_OUTPUT.len() + 1 {
-        assert!(rt; is_broken_after(&rt, rt.alloc(), left), "after {left}");
+        assert!(rt; is_broken_after(rt.alloc(), left), "after {left}");
     }
 }

@@ -1,4 +1,4 @@
-use Rattle.std.proofs.Common.{◌∙◌, Option, Some, None, List, ℕ, ap, sym, subst, refl, take, drop, append-nil}
+use Rattle.std.proofs.Common.{◌∙◌, [], ◌∷◌, Option, Some, None, List, ℕ, ap, sym, subst, refl, take, drop, append-nil}
 use Rattle.std.specs.List.{concat}
 use Rattle.debug_language.specs.declared.engine.EngineCommand.TheVariants as engine
 use Rattle.debug_language.specs.Reader.{engine_command_of}
@@ -6,8 +6,8 @@ use Rattle.x_debug.specs.Commands.{answer_line}
 use Rattle.x_debug.specs.LoadedTexts.{load_answer}
 use Rattle.debug_laws.proofs.AnswerLemmas.{line_alike, load_alike}
 use Rattle.debug_script.specs.Input.{without_newline, raw_lines}
-use Rattle.debug_script.specs.Refusals.{IsWantOr, MayRefuse, MayEnd}
-use Rattle.debug_script.proofs.RefusalLemmas.{command_may_end, passed_on}
+use Rattle.debug_script.specs.Refusals.{IsWantOr, IsWantOrAsked, MayRefuse, MayEnd}
+use Rattle.debug_script.proofs.RefusalLemmas.{command_may_end, asked_by, passed_on}
 use Rattle.debug_script.proofs.AlikeLemmas.{read_as, left_by, text_by, session_by, text_of_alike, session_of_alike}
 use Rattle.debug_script.proofs.answers.exchange.Goals as goal
 
@@ -116,3 +116,12 @@ returns-in_err-session-in-Some-Pool-clause-why g c =
     c.in-Some-Pool.ensures c.without_newline-line.ensures))
     c.in_err-session-in-Some-Pool.field-0.0
     (subst (λ (n : ℕ). IsWantOr (MayRefuse n) c.in_err-session-in-Some-Pool.field-0.0) c.in-Some-Pool.workers-is c.in_err-session-in-Some-Pool.ensures.why))
+
+pub returns-in_err-session-in-Some-Pool-clause-asked : goal.returns-in_err-session-in-Some-Pool-clause-asked
+returns-in_err-session-in-Some-Pool-clause-asked g c =
+    passed_on (IsWantOrAsked (c.args.raw.now ∷ [])) c.in_err-session-in-Some-Pool.field-0.0 c.from_residual-in_err-session-in-Some-Pool.result
+    c.from_residual-in_err-session-in-Some-Pool.ensures.1
+    (asked_by c.args.raw.now c.in-Some-Pool.workers
+    (sym (read_as c.args.raw.now c.without_newline-line.result.now c.in-Some-Pool.field-0 (engine.Pool c.in-Some-Pool.workers) c.in-Some-Pool.field-0-is
+    c.in-Some-Pool.ensures c.without_newline-line.ensures))
+    c.in_err-session-in-Some-Pool.field-0.0)

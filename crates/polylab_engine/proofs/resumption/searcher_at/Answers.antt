@@ -11,4 +11,4 @@ at-requires c =
     (subst (Fits c.args.snapshot.now.problem) (sym c.state.ensures) c.problem.ensures.snapshot.on_run.fits)
 
 pub returns : goal.returns
-returns c = IfOk-weaker c.at.result _ _ (λ s h. h ∙ ap₂ position c.problem.ensures.problem c.state.ensures) c.at.ensures
+returns c = IfOk-weaker c.at.result _ _ (λ s h. h ∙ ap₂ position c.problem.ensures.problem c.state.ensures) c.at.ensures.position

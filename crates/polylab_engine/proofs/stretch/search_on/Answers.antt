@@ -6,7 +6,7 @@ use Rattle.x_steps.specs.StateView.{state_value}
 use Rattle.x_steps.specs.Steps.{Fits}
 use Rattle.polylab_engine.specs.Account.{ReportValue, empty_account, report_of}
 use Rattle.polylab_engine.specs.Searcher.{stands}
-use Rattle.polylab_engine.specs.Stretch.{report_from, StopsAt}
+use Rattle.polylab_engine.specs.Stretch.{report_from, StopsAt, HasFewerBefore}
 use Rattle.polylab_engine.proofs.stretch.search_on.Goals as goal
 
 pub walk_to_stop-requires-clause-empty : goal.walk_to_stop-requires-clause-empty
@@ -22,6 +22,10 @@ returns-clause-stop g c =
 pub returns-clause-first : goal.returns-clause-first
 returns-clause-first g c =
     subst (λ (k : ℕ). ForSome c.args.first (λ n. k ≤ n)) (sym (ap (λ (r : ReportValue). r.visited) c.in_ok-report.ensures)) c.in_ok-walk_to_stop.ensures.first
+
+pub returns-clause-soon : goal.returns-clause-soon
+returns-clause-soon g c =
+    subst (λ (k : ℕ). ForSome c.args.first (λ n. HasFewerBefore (stands c.args.searcher) k n)) (sym (ap (λ (r : ReportValue). r.steps) c.in_ok-report.ensures)) c.in_ok-walk_to_stop.ensures.soon
 
 pub returns-clause-fits : goal.returns-clause-fits
 returns-clause-fits g c =

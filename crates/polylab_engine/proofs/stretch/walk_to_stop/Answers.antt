@@ -4,12 +4,15 @@ use Rattle.cover_problem.specs.Problem.{ProblemValue}
 use Rattle.x_steps.specs.StateValue.{StateValue, done}
 use Rattle.x_steps.specs.Rank.{rank}
 use Rattle.x_steps.specs.Machine.{MachineValue}
-use Rattle.x_steps.specs.Walk.{IsWalk}
+use Rattle.x_steps.specs.Run.{steps_between}
+use Rattle.x_steps.specs.Walk.{IsWalk, OnlyMoves}
+use Rattle.x_steps.proofs.BetweenLemmas.{length-states}
 use Rattle.x_steps.proofs.WalkLemmas.{lent_whole}
 use Rattle.polylab_engine.specs.Account.{Account, AreSums, empty_account}
 use Rattle.polylab_engine.specs.Searcher.{stands}
 use Rattle.polylab_engine.proofs.StopLemmas.{pace_left, why_none, either, full_is, not_full, visits_within}
-use Rattle.polylab_engine.proofs.SearchLemmas.{Searches, searches_begin, searches_on, searches_nearer, searches_anew, searches_end, searches_stop, new_fits}
+use Rattle.polylab_engine.proofs.SearchLemmas.{Searches, searches_begin, searches_on, searches_nearer, searches_anew, searches_end, searches_stop, steps_on, new_fits}
+use Rattle.polylab_engine.proofs.SoonLemmas.{FewerBefore, fewer_begin, fewer_on}
 use Rattle.polylab_engine.proofs.stretch.walk_to_stop.Goals as goal
 
 pub loop-alloc-init : goal.loop-alloc-init
@@ -19,6 +22,7 @@ loop-alloc-init g c =
           size (c.requires.empty ∙ ap empty_account (sym size)) c.in_ok-counts.ensures (omega arith),
       omega arith,
       λ n e. let none = ap (λ (t : Account). t.visited) c.requires.empty in omega arith,
+      fewer_begin _ _ c.args.first c.stands_in_run.ensures.fits,
     )
 
 pub returns-then-walk-eq0-clause-stop : goal.returns-then-walk-eq0-clause-stop
@@ -35,6 +39,15 @@ pub returns-then-walk-eq0-clause-first : goal.returns-then-walk-eq0-clause-first
 returns-then-walk-eq0-clause-first g c =
     let told = ap (λ (t : Account). t.visited) c.in_ok-add_counts.ensures.others in
     λ n e. let most = c.loop-alloc.invariant.2 n e in omega arith
+
+pub returns-then-walk-eq0-clause-soon : goal.returns-then-walk-eq0-clause-soon
+returns-then-walk-eq0-clause-soon g c =
+    let search = c.loop-alloc.invariant.0 in
+    let p = (stands c.args.searcher.now).problem in
+    let from = (stands c.args.searcher.now).state in
+    let taken : c.add_counts.new.self.steps ≡ steps_between p from (stands c.loop-alloc.searcher).state =
+    ap (λ (t : Account). t.steps) c.in_ok-add_counts.ensures.others ∙ search.tells.steps_are ∙ length-states p (steps_between p from (stands c.loop-alloc.searcher).state) from in
+    subst (FewerBefore p from c.args.first) (sym taken) c.loop-alloc.invariant.3
 
 pub returns-then-walk-eq0-clause-fits : goal.returns-then-walk-eq0-clause-fits
 returns-then-walk-eq0-clause-fits g c =
@@ -61,7 +74,7 @@ pub loop-alloc-smaller-then-room-eq0 : goal.loop-alloc-smaller-then-room-eq0
 loop-alloc-smaller-then-room-eq0 g c =
     let f = c.if-walk-eq0.false in
     let walk = subst (λ l. IsWalk (stands c.loop-alloc.searcher).problem (stands c.loop-alloc.searcher).state (stands c.walk_on-walk.new.searcher).state l c.walk_on-walk.new.counts c.walk_on-walk.result.steps c.walk_on-walk.result.event) c.deref_mut.ensures.value c.walk_on-walk.ensures.walk in
-    subst (λ (m : MachineValue). rank (stands c.args.searcher.now).problem done - rank (stands c.args.searcher.now).problem m.state < rank (stands c.args.searcher.now).problem done - rank (stands c.args.searcher.now).problem (stands c.loop-alloc.searcher).state) (sym c.ask_again.ensures)
+    subst (λ (m : MachineValue). rank (stands c.args.searcher.now).problem done - rank (stands c.args.searcher.now).problem m.state < rank (stands c.args.searcher.now).problem done - rank (stands c.args.searcher.now).problem (stands c.loop-alloc.searcher).state) (sym c.ask_again.ensures.position)
     (searches_nearer _ _ _ _ _ _ (stands c.walk_on-walk.new.searcher) _ _ _ _ _ _ _ c.loop-alloc.invariant.0 walk (omega arith))
 
 pub loop-alloc-preserved : goal.loop-alloc-preserved
@@ -75,12 +88,19 @@ loop-alloc-preserved g c =
     let noted = ap (λ (t : Account). t.visited) c.in_ok-note.ensures in
     let more = visits_within c.loop-alloc.tally.visited c.walk_on-walk.result.event in
     let one : c.note.new.self.visited ≤ c.loop-alloc.tally.visited + 1 = omega arith in
+    let search = c.loop-alloc.invariant.0 in
+    let fewer = subst (FewerBefore (stands c.args.searcher.now).problem (stands c.args.searcher.now).state c.args.first)
+    (sym (steps_on _ _ _ _ _ _ (stands c.walk_on-walk.new.searcher) _ _ _ _ _ _ _ search walk))
+    (fewer_on (stands c.args.searcher.now).problem (stands c.args.searcher.now).state (stands c.loop-alloc.searcher).state c.args.first c.loop-alloc.tally.visited c.walk_on-walk.result.steps
+    search.from_fits search.fits search.begun search.tells.visited_is less
+    (subst (λ (q : ProblemValue). OnlyMoves q c.walk_on-walk.result.steps (stands c.loop-alloc.searcher).state) search.same walk.moves) c.loop-alloc.invariant.3) in
     let path = c.deref-in-loop-alloc.ensures.value ∙ ap (λ (s : StateValue). s.path) c.state.ensures.state in
     let on = searches_on _ _ _ _ _ _ (stands c.walk_on-walk.new.searcher) _ _ _ _ _ _ _ c.loop-alloc.invariant.0 walk _ _ _ c.walk_on-walk.ensures.problem (omega arith)
     (pace_left c.loop-alloc.left c.pace_of.result _ c.pace_of.ensures.left within) c.walk_on-walk.ensures.before path c.in_ok-note.ensures c.left_after-left.ensures in (
       subst (λ l. Searches c.args.keeps (stands c.args.searcher.now).problem (stands c.args.searcher.now).state c.args.end.now c.args.most (stands c.walk_on-walk.new.searcher) c.note.new.self l (c.loop-alloc.room - c.walk_on-walk.result.steps) c.left_after-left.result) (sym (lent_whole _ _ _ walk.counted.levels size)) on,
       omega arith,
       not_full c.args.first c.loop-alloc.tally.visited c.note.new.self.visited less one,
+      fewer,
     )
 
 pub loop-alloc-preserved-then-room-eq0 : goal.loop-alloc-preserved-then-room-eq0
@@ -95,15 +115,23 @@ loop-alloc-preserved-then-room-eq0 g c =
     let others = ap (λ (t : Account). t.visited) c.in_ok-add_counts-2.ensures.others in
     let more = visits_within c.loop-alloc.tally.visited c.walk_on-walk.result.event in
     let one : c.add_counts-then-room-eq0.new.self.visited ≤ c.loop-alloc.tally.visited + 1 = omega arith in
+    let search = c.loop-alloc.invariant.0 in
+    let fewer = subst (FewerBefore (stands c.args.searcher.now).problem (stands c.args.searcher.now).state c.args.first)
+    (sym (steps_on _ _ _ _ _ _ (stands c.walk_on-walk.new.searcher) _ _ _ _ _ _ _ search walk))
+    (fewer_on (stands c.args.searcher.now).problem (stands c.args.searcher.now).state (stands c.loop-alloc.searcher).state c.args.first c.loop-alloc.tally.visited c.walk_on-walk.result.steps
+    search.from_fits search.fits search.begun search.tells.visited_is less
+    (subst (λ (q : ProblemValue). OnlyMoves q c.walk_on-walk.result.steps (stands c.loop-alloc.searcher).state) search.same walk.moves) c.loop-alloc.invariant.3) in
     let path = c.deref-in-loop-alloc.ensures.value ∙ ap (λ (s : StateValue). s.path) c.state.ensures.state in
     let on = searches_on _ _ _ _ _ _ (stands c.walk_on-walk.new.searcher) _ _ _ _ _ _ _ c.loop-alloc.invariant.0 walk _ _ _ c.walk_on-walk.ensures.problem (omega arith)
     (pace_left c.loop-alloc.left c.pace_of.result _ c.pace_of.ensures.left within) c.walk_on-walk.ensures.before path c.in_ok-note.ensures c.left_after-left.ensures in
     let row = c.deref-then-room-eq0.ensures.value ∙ lent_whole _ _ _ walk.counted.levels size in
     let sums = subst (λ l. AreSums c.note.new.self.entered l c.add_counts-then-room-eq0.new.self.entered) row c.in_ok-add_counts-2.ensures.sums in (
       subst (λ (m : MachineValue). Searches c.args.keeps (stands c.args.searcher.now).problem (stands c.args.searcher.now).state c.args.end.now c.args.most m c.add_counts-then-room-eq0.new.self c.in_ok-counts-2.counts.items 4294967295 c.left_after-left.result)
-          (sym c.ask_again.ensures)
+          (sym c.ask_again.ensures.position)
           (searches_anew _ _ _ _ _ (stands c.walk_on-walk.new.searcher) _ _ _ _ _ _ 4294967295 _ on c.in_ok-add_counts-2.ensures.others sums
           (c.items-items.ensures.count ∙ ap (λ (q : ProblemValue). length q.names) c.problem.ensures) c.in_ok-counts-2.ensures (omega arith)),
       omega arith,
       not_full c.args.first c.loop-alloc.tally.visited c.add_counts-then-room-eq0.new.self.visited less one,
+      subst (λ (m : MachineValue). FewerBefore (stands c.args.searcher.now).problem (stands c.args.searcher.now).state c.args.first
+          (steps_between (stands c.args.searcher.now).problem (stands c.args.searcher.now).state m.state)) (sym c.ask_again.ensures.position) fewer,
     )

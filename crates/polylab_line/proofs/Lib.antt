@@ -1,2 +1,0 @@
-pub mod ExitLemmas
-pub mod FaultLemmas

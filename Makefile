@@ -32,9 +32,10 @@ LONG_COVERS = pent-10x6 langford-12
 # Puzzles whose first packing comes at once, and whose count nobody waits for.
 FIRST = first/bricks-6x6x6
 
-CHECKS_OF_TEXTS = check-names check-lemmas check-edits check-waiting check-sentences check-ownership check-scripts
+CHECKS_OF_TEXTS = check-names check-lemmas check-edits check-waiting check-sentences check-theorem check-clauses check-ownership \
+	check-jobs check-scripts check-units
 
-.PHONY: all quick help scripts build ci layout wrong-bodies bench install uninstall dist gallery gallery-long $(CHECKS_OF_TEXTS) check-frame check-install \
+.PHONY: all quick help scripts build ci layout theorem wrong-bodies bench install uninstall dist gallery gallery-long $(CHECKS_OF_TEXTS) check-frame check-install \
 	check-dist check-tools check-texts check-refused check-rows check-up-to check-cache counts check-sessions check-parts check-docs check-words check-completions \
 	check-page check-studio check-statuses check-memory check-memory-all
 
@@ -55,7 +56,7 @@ help:
 
 # Each script of tools/, dev/ and bench/, with what it is for.
 scripts:
-	@dev/check_scripts --list
+	@dev/do check_scripts --list
 
 ## The program
 
@@ -75,13 +76,13 @@ install: build
 	cp completions/polylab.bash "$(SHARE)/bash-completion/completions/polylab"
 	cp completions/_polylab "$(DESTDIR)$(ZSH_FUNCTIONS)/_polylab"
 	cp completions/polylab.fish "$(SHARE)/fish/vendor_completions.d/polylab.fish"
-	dev/install_docs "$(SHARE)/doc/polylab" $(COMMANDS)
+	dev/do install_docs "$(SHARE)/doc/polylab" $(COMMANDS)
 	for tool in $(COMMANDS) $(PARTS); do cp "tools/$$tool" "$(SHARE)/polylab/tools" || exit 1; done
 	for tool in $(COMMANDS); do name=polylab-$$(echo "$$tool" | tr _ -); \
 		ln -sf "../share/polylab/tools/$$tool" "$(DESTDIR)$(PREFIX)/bin/$$name" && \
 		ln -sf polylab "$(SHARE)/bash-completion/completions/$$name" && \
 		ln -sf polylab.fish "$(SHARE)/fish/vendor_completions.d/$$name.fish" || exit 1; done
-	dev/install_man "$(DESTDIR)$(PREFIX)/bin" "$(SHARE)/man/man1"
+	dev/do install_man "$(DESTDIR)$(PREFIX)/bin" "$(SHARE)/man/man1"
 
 # Takes away what install put below PREFIX.
 uninstall:
@@ -93,7 +94,7 @@ uninstall:
 
 # Packs a checkout without changes into dist/: a tar file and a Debian package, with checksums.
 dist: build
-	@dev/make_dist
+	@dev/do make_dist
 
 # Measures the program beside a plain C program on ten texts: many minutes, and the machine has to be idle.
 bench: build
@@ -109,142 +110,164 @@ ci:
 layout:
 	@for crate in crates/*; do (cd "$$crate" && rt fmt) || exit 1; done
 
+# Makes the pages of docs/theorem, one a command, from the specifications, and docs/SENTENCES.md: seconds.
+theorem:
+	@dev/do theorem
+	@dev/do sentences
+
 # Tries the other wrong bodies: some 50 minutes of one processor. CRATES="NAME .." tries those of some crates alone.
 wrong-bodies:
-	@dev/wrong_bodies --lanes 3 $(CRATES)
+	@dev/do wrong_bodies --lanes 3 $(CRATES)
 
 ## Checks of the tree's texts, which need no program: seconds each
 
 # Each word is defined in one crate; dev/names.txt has those of two, with a reason.
 check-names:
-	@dev/check_names
+	@dev/do check_names
 
 # Each lemma is used by a proof, an example or a definition.
 check-lemmas:
-	@dev/check_lemmas
+	@dev/do check_lemmas
 
 # Each wrong body can be made, and those of wrong-bodies were refused over the texts as they are.
 # And the sentences of a check are read as they are meant.
 check-edits:
-	@dev/check_verdicts
-	@dev/check_edits
+	@dev/do check_verdicts
+	@dev/do check_edits
 
 # The functions of the program that may wait for ever stand in dev/waiting.txt, with a reason, and no other.
 check-waiting:
-	@dev/check_waiting
+	@dev/do check_waiting
 
 # What the documents say of names, clauses, numbers and crates is the tree's.
 check-sentences:
-	@dev/check_sentences
+	@dev/do check_sentences
+
+# The pages of docs/theorem, and docs/SENTENCES.md, are those that `make theorem` makes of the tree.
+check-theorem:
+	@dev/do theorem --check
+	@dev/do sentences --check
+
+# An equation says what a public clause claims to be there, or dev/clauses.txt has a body that doesn't meet the clause.
+check-clauses:
+	@dev/do check_clauses
 
 # What owns the raw block has no Drop: one, written or derived, would drop the block's owner, and leak the block.
 check-ownership:
 	@! grep -n 'Drop' crates/cover_links/src/raw.rt
 
+# The command that takes files and the completions have the jobs and options of dev/jobs.txt, and so has the man page; dev/do jobs writes the former.
+check-jobs:
+	@dev/do jobs --check
+
 # Each script tells its use, and shellcheck, pyflakes and node, where they are here, find nothing in it: ten seconds.
 check-scripts:
-	@dev/check_scripts
+	@dev/do check_scripts
+
+# The modules of tools/, and some of dev/, answer what was worked out by hand (dev/units): seconds.
+check-units:
+	@dev/do check_units
 
 ## Checks of the scripts and documents
 
 # Help, version and wrong words of each script that is installed, texts from files and standard input, broken texts: half a minute.
 check-frame:
-	@dev/check_frame
+	@dev/do check_frame
 
 # What is installed works in a folder that is then moved, and nothing of it is left behind: half a minute.
 check-install:
-	@dev/check_install
+	@dev/do check_install
 
 # The packages work where they are unpacked, made of stand-ins for the program: ten seconds.
 check-dist:
-	@dev/check_dist
+	@dev/do check_dist
 
 # bash, fish and zsh, where they are here, offer the words that they should.
 check-completions:
-	@dev/check_completions
+	@dev/do check_completions
 
 # Packings, puzzles and sessions go through the scripts, and what is spoilt is found: a minute.
 check-tools: build
-	@dev/check_tools
-	@dev/check_explain
-	@dev/check_convert
-	@dev/check_pieces
+	@dev/do check_tools
+	@dev/do check_explain
+	@dev/do check_convert
+	@dev/do check_pieces
 
 # Counts in parts and in slices add up, also after a kill and an interrupt; spoilt folders of parts are refused: a minute.
 check-parts: build
-	@dev/check_parts
-	@dev/check_runs
+	@dev/do check_parts
+	@dev/do check_runs
 
 # Pages of packings and of sessions, in headless Chromium where it is here, show what they should: minutes.
 check-page: build
-	@dev/check_page
+	@dev/do check_page
 
 # The studio refuses whoever isn't its page, and a newcomer's steps in headless Chromium, where it is here, come to 240 Soma cubes: minutes.
 check-studio: build
-	@dev/check_studio
+	@dev/do check_studio
 
 # Each command line that a document shows prints what is shown there: a minute.
 check-docs: build
-	@dev/check_docs README.md docs/RECIPES.md docs/TUTORIAL.md docs/DEBUGGER.md docs/polylab.1
+	@dev/do check_docs README.md docs/RECIPES.md docs/TUTORIAL.md docs/DEBUGGER.md docs/polylab.1
 
-# The man page and the completions name the jobs and options that the program's help names.
+# dev/jobs.txt names the jobs and options that the program's help names; the examples of the help and of the man page print what is shown.
 check-words: build
-	@dev/check_words
+	@dev/do check_words
 
 ## Checks of the program
 
 # The examples have the counts that are known of them (NAME.expect), also by 2 and 8 workers and by both tables: half a minute.
 gallery: build
-	@dev/gallery $(QUICK:%=puzzles/%) $(QUICK_COVERS:%=covers/%)
-	@WORKERS=2 dev/gallery $(SHARED)
-	@WORKERS=8 dev/gallery $(SHARED)
-	@for table in links bits; do TABLE=$$table dev/gallery $(SHARED) || exit 1; WORKERS=2 TABLE=$$table dev/gallery $(SHARED) || exit 1; done
-	@dev/gallery $(FIRST)
+	@dev/do gallery $(QUICK:%=puzzles/%) $(QUICK_COVERS:%=covers/%)
+	@WORKERS=2 dev/do gallery $(SHARED)
+	@WORKERS=8 dev/do gallery $(SHARED)
+	@for table in links bits; do TABLE=$$table dev/do gallery $(SHARED) || exit 1; WORKERS=2 TABLE=$$table dev/do gallery $(SHARED) || exit 1; done
+	@dev/do gallery $(FIRST)
 
 # The examples that take up to some minutes each.
 gallery-long: build
-	@dev/gallery $(LONG:%=puzzles/%) $(LONG_COVERS:%=covers/%)
+	@dev/do gallery $(LONG:%=puzzles/%) $(LONG_COVERS:%=covers/%)
 
 # Of random texts, many with faults, the program tells the first fault that the scripts read, and has as many options: seconds.
 check-texts: build
-	@dev/check_texts
+	@dev/do check_texts
 
 # Puzzle texts are refused (dev/refused.txt), each with the fault and the line that were worked out by hand.
 check-refused: build
-	@dev/check_refused
+	@dev/do check_refused
 
 # Texts whose output, error line and status are known byte for byte (dev/rows), and some that are made: some 2,700 runs, seconds.
 check-rows: build
-	@dev/check_rows
+	@dev/do check_rows
 
 # Of puzzles drawn at random what is counted and shown up to symmetry is what is found by trying all, and by --classes: ten seconds.
 # PUZZLES=2000 draws that many.
 check-up-to: build
-	@dev/check_up_to $(PUZZLES)
+	@dev/do check_up_to $(PUZZLES)
 
 # Of texts drawn at random the program counts the same with a cache and without: ten seconds.
 check-cache: build
-	@dev/check_cache $(PUZZLES)
+	@dev/do check_cache $(PUZZLES)
 
 # The counts to cite of examples/counts, each in two ways: a minute. With COUNTS=--long those too that take longer.
 counts: build
-	@dev/counts $(COUNTS)
+	@dev/do counts $(COUNTS)
 
 # Sessions of the debugger are answered as was worked out by hand, and drawn ones, with pools among them, agree: seconds.
 check-sessions: build
-	@dev/check_sessions
+	@dev/do check_sessions
 
 # Each exit status, by a run that ends with it.
 check-statuses: build
-	@dev/check_statuses
+	@dev/do check_statuses
 
 # A run to which a growth of memory is refused answers whole, or ends with status 4: a sample of growths, half a minute.
 # And each growth of single calls of the libraries, by the tests that the gate built: a refused call changes nothing, and is then made again.
 check-memory: build
-	@dev/refuse
-	@dev/check_memory $(ALL_THERE)
+	@dev/do refuse
+	@dev/do check_memory $(ALL_THERE)
 
 # The same of each growth of each job: some minutes.
 check-memory-all: build
-	@dev/refuse --all
-	@dev/check_memory $(ALL_THERE)
+	@dev/do refuse --all
+	@dev/do check_memory $(ALL_THERE)

@@ -67,7 +67,7 @@ SQUARE = "piece q 000 100 010 110\n"
 
 def stop(what):
     """Ends the script with a sentence."""
-    print("%s: %s" % (os.path.basename(sys.argv[0]), what), file=sys.stderr)
+    print(f"{os.path.basename(sys.argv[0])}: {what}", file=sys.stderr)
     sys.exit(2)
 
 
@@ -79,7 +79,7 @@ def cover_text(items, options, maybe=()):
 
 def langford(n):
     """Pairs of the numbers 1 to n: the two places of k have k others between."""
-    numbers, places = ["n%d" % k for k in range(1, n + 1)], ["p%d" % place for place in range(1, 2 * n + 1)]
+    numbers, places = [f"n{k}" for k in range(1, n + 1)], [f"p{place}" for place in range(1, 2 * n + 1)]
     return cover_text(
         numbers + places, [[numbers[k - 1], places[at], places[at + k + 1]] for k in range(1, n + 1) for at in range(2 * n - k - 1)]
     )
@@ -87,34 +87,33 @@ def langford(n):
 
 def permutations(n):
     """A rook in each row and column of n x n."""
-    return cover_text(["%s%d" % (kind, at) for kind in "rc" for at in range(n)], [["r%d" % r, "c%d" % c] for r in range(n) for c in range(n)])
+    return cover_text([f"{kind}{at}" for kind in "rc" for at in range(n)], [[f"r{r}", f"c{c}"] for r in range(n) for c in range(n)])
 
 
 def partitions(n):
     """Each set of its members is an option."""
-    members = ["m%d" % member for member in range(n)]
+    members = [f"m{member}" for member in range(n)]
     return cover_text(members, [list(some) for size in range(1, n + 1) for some in combinations(members, size)])
 
 
 def latin(n):
     """Each cell has one number, each row and column has each number once."""
     square = range(n)
-    items = ["%s%d_%d" % (kind, one, other) for kind in "crk" for one in square for other in square]
-    return cover_text(items, [["c%d_%d" % (r, c), "r%d_%d" % (r, d), "k%d_%d" % (c, d)] for r in square for c in square for d in square])
+    items = [f"{kind}{one}_{other}" for kind in "crk" for one in square for other in square]
+    return cover_text(items, [[f"c{r}_{c}", f"r{r}_{d}", f"k{c}_{d}"] for r in square for c in square for d in square])
 
 
 def queens(n):
     """Each row and file has one queen, each diagonal at most one."""
-    items = ["%s%d" % (kind, at) for kind in "rf" for at in range(n)]
-    maybe = ["%s%d" % (kind, at) for kind in "ab" for at in range(2 * n - 1)]
-    return cover_text(items, [["r%d" % r, "f%d" % f, "a%d" % (r + f), "b%d" % (n - 1 - r + f)] for r in range(n) for f in range(n)], maybe)
+    items = [f"{kind}{at}" for kind in "rf" for at in range(n)]
+    maybe = [f"{kind}{at}" for kind in "ab" for at in range(2 * n - 1)]
+    return cover_text(items, [[f"r{r}", f"f{f}", f"a{r + f}", f"b{n - 1 - r + f}"] for r in range(n) for f in range(n)], maybe)
 
 
 def dominoes(cells):
     """The items of cells, and an option for each two side by side."""
-    name = "c%d_%d"
-    options = [[name % (x, y), name % (x + a, y + b)] for x, y in cells for a, b in ((1, 0), (0, 1)) if (x + a, y + b) in cells]
-    return [name % cell for cell in cells], options
+    options = [[f"c{x}_{y}", f"c{x + a}_{y + b}"] for x, y in cells for a, b in ((1, 0), (0, 1)) if (x + a, y + b) in cells]
+    return [f"c{x}_{y}" for x, y in cells], options
 
 
 def domino(size):
@@ -130,7 +129,7 @@ def options_of_one(n):
 
 def deep(n):
     """What has one option is chosen first; the two corners have one colour, so no 31 dominoes pack the rest."""
-    chain = ["d%d" % level for level in range(n - 31)]
+    chain = [f"d{level}" for level in range(n - 31)]
     items, options = dominoes({(x, y): None for y in range(8) for x in range(8) if (x, y) not in ((0, 0), (7, 7))})
     return cover_text(chain + items, [[item] for item in chain] + options)
 
@@ -139,9 +138,9 @@ def sudoku():
     """Boxes are two cells high and three wide; the first row is given."""
     six = range(6)
     box = [[r // 2 * 2 + c // 3 for c in six] for r in six]
-    items = ["%s%d_%d" % (kind, one, other) for kind in ("cell", "row", "col", "box") for one in six for other in six]
+    items = [f"{kind}{one}_{other}" for kind in ("cell", "row", "col", "box") for one in six for other in six]
     options = [
-        ["cell%d_%d" % (r, c), "row%d_%d" % (r, d), "col%d_%d" % (c, d), "box%d_%d" % (box[r][c], d)]
+        [f"cell{r}_{c}", f"row{r}_{d}", f"col{c}_{d}", f"box{box[r][c]}_{d}"]
         for r in six for c in six for d in six if r or c == d
     ]
     return cover_text(items, options)
@@ -155,7 +154,7 @@ def compiled(puzzle):
 
 def named(count, cells):
     """The lines of so many pieces of the same cells."""
-    return "".join("piece %s %s\n" % (name, cells) for name in NAMES[:count])
+    return "".join(f"piece {name} {cells}\n" for name in NAMES[:count])
 
 
 DIGITS = "0123456789abcdefghijklmnopqrstuv"
@@ -199,12 +198,12 @@ def equal_text(groups, region, form):
     for count, cells in groups:
         own = "".join(next(names) for _ in range(count))
         if form == "any" and (count, cells) == largest:
-            lines.append("any piece %s %s" % (own[0], cells))
+            lines.append(f"any piece {own[0]} {cells}")
             largest = None
         elif form == "named" or count == 1:
-            lines += ["piece %s %s" % (name, cells) for name in own]
+            lines += [f"piece {name} {cells}" for name in own]
         else:
-            lines.append("copies %s %s" % (own, cells))
+            lines.append(f"copies {own} {cells}")
     return "\n".join(lines) + "\n" + region
 
 
@@ -219,7 +218,7 @@ MADE = {
     "bricks-6x6x6": lambda: compiled(named(36, "000 100 010 110 020 120") + "box 6 6 6\n"),
     "two-16x16x16": lambda: compiled("piece L 000 100 010\npiece I 000 100 200\n" + holes(16)),
     "none-to-two-5x4-copies": lambda: compiled(
-        "".join("copies +%s%s %s\n" % (name, name.lower(), cells) for name, cells in TETROMINOES.items()) + "box 5 4 1\n"),
+        "".join(f"copies +{name}{name.lower()} {cells}\n" for name, cells in TETROMINOES.items()) + "box 5 4 1\n"),
 }
 
 
@@ -245,7 +244,7 @@ def text_of(name):
         return NUMBERED[kind](int(size))
     if kind == "domino" and all(side.isdigit() for side in size.split("x")) and size.count("x") == 1:
         return domino(size)
-    return stop("no text is named %s: not in examples/, and not of those that bench/inputs.py makes" % name)
+    return stop(f"no text is named {name}: not in examples/, and not of those that bench/inputs.py makes")
 
 
 def examples():

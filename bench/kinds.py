@@ -43,39 +43,38 @@ def sides(size):
 
 
 def box(size):
-    return "box %d %d %d\n" % tuple(sides(size))
+    return f"box {' '.join(map(str, sides(size)))}\n"
 
 
 def pairs_of(first, second):
-    return ["%s%d_%d" % (kind, one, other) for kind in "crkb" for one in range(first) for other in range(second)]
+    return [f"{kind}{one}_{other}" for kind in "crkb" for one in range(first) for other in range(second)]
 
 
 def sudoku(n):
     """Each cell has one number; each row, column and box has each number once."""
     root = round(n ** 0.5)
-    options = [["c%d_%d" % (r, c), "r%d_%d" % (r, d), "k%d_%d" % (c, d), "b%d_%d" % (r // root * root + c // root, d)]
+    options = [[f"c{r}_{c}", f"r{r}_{d}", f"k{c}_{d}", f"b{r // root * root + c // root}_{d}"]
                for r in range(n) for c in range(n) for d in range(n)]
     return cover_text(pairs_of(n, n), options)
 
 
 def chain(n, k):
-    return cover_text(["i%d" % i for i in range(n)], [["i%d" % i] for i in range(n) for _ in range(k)])
+    return cover_text([f"i{i}" for i in range(n)], [[f"i{i}"] for i in range(n) for _ in range(k)])
 
 
 def windows(n, k):
-    names = ["i%d" % i for i in range(n)]
+    names = [f"i{i}" for i in range(n)]
     return cover_text(names, [names[at : at + size] for size in (2, k) for at in range(n - size + 1)])
 
 
 def triples(n):
-    name = "p%d_%d"
-    options = [[name % (a, b), name % (a, c), name % (b, c)] for a in range(n) for b in range(a + 1, n) for c in range(b + 1, n)]
-    return cover_text([name % (a, b) for a in range(n) for b in range(a + 1, n)], options)
+    options = [[f"p{a}_{b}", f"p{a}_{c}", f"p{b}_{c}"] for a in range(n) for b in range(a + 1, n) for c in range(b + 1, n)]
+    return cover_text([f"p{a}_{b}" for a in range(n) for b in range(a + 1, n)], options)
 
 
 def drawn(n, m, k, may_stay):
     """Options drawn by a fixed seed; where items may stay uncovered there is none for an item alone."""
-    draw, names = random.Random(n * m * k), ["i%d" % i for i in range(n)]
+    draw, names = random.Random(n * m * k), [f"i{i}" for i in range(n)]
     options = [draw.sample(names, k) for _ in range(m)]
     if may_stay:
         return cover_text(names[: n // 2], options, names[n // 2 :])
@@ -85,28 +84,28 @@ def drawn(n, m, k, may_stay):
 def flat(cells, width, height):
     """A flat piece laid on a board, turned and reflected, any number of times."""
     piece = [(int(x), int(y)) for x, y, _ in cells.split()]
-    turned, name = set(), "c%d_%d"
+    turned = set()
     for mirror in (1, -1):
         for _ in range(4):
             piece = [(-y, x) for x, y in piece]
             seen = [(mirror * x, y) for x, y in piece]
             low, side = min(x for x, _ in seen), min(y for _, y in seen)
             turned.add(tuple(sorted((x - low, y - side) for x, y in seen)))
-    options = [[name % (x + a, y + b) for x, y in shape] for shape in sorted(turned) for b in range(height) for a in range(width)
+    options = [[f"c{x + a}_{y + b}" for x, y in shape] for shape in sorted(turned) for b in range(height) for a in range(width)
                if all(x + a < width and y + b < height for x, y in shape)]
-    return cover_text([name % (x, y) for y in range(height) for x in range(width)], options)
+    return cover_text([f"c{x}_{y}" for y in range(height) for x in range(width)], options)
 
 
 def twelve(size):
     lines = PENTOMINOES + "piece I 000 100 200 300 400\n"
-    return compiled("".join("any %s\n" % line for line in lines.splitlines()) + box(size))
+    return compiled("".join(f"any {line}\n" for line in lines.splitlines()) + box(size))
 
 
 def blocks(size):
     """Rectangles that lie or stand; a piece in a flat box is turned by its rotations."""
     shapes = [(2, 3), (2, 5), (3, 4), (3, 5), (4, 6)]
-    cells = [" ".join("%d%d0" % (x, y) for y in range(b) for x in range(a)) for a, b in shapes]
-    return compiled("".join("any piece %s %s\n" % (NAMES[at], one) for at, one in enumerate(cells)) + box(size))
+    cells = [" ".join(f"{x}{y}0" for y in range(b) for x in range(a)) for a, b in shapes]
+    return compiled("".join(f"any piece {NAMES[at]} {one}\n" for at, one in enumerate(cells)) + box(size))
 
 
 def copies_box():
@@ -115,7 +114,7 @@ def copies_box():
 
 
 def copies_cube():
-    return compiled("copies %s %s\nbox 5 5 5\n" % (NAMES[:25], PIECES["y"]))
+    return compiled(f"copies {NAMES[:25]} {PIECES['y']}\nbox 5 5 5\n")
 
 
 NUMBERED = {"sudoku": sudoku, "triples": triples}
@@ -133,7 +132,7 @@ def text_of(name):
     if kind in PIECES and form == "any" and region.count("x") == 1:
         return flat(PIECES[kind], *sides(region)[:2])
     if kind in PIECES and form in ("any", "mirror") and region:
-        return compiled("any %spiece %s %s\n" % ("mirror " if form == "mirror" else "", kind, PIECES[kind]) + box(region))
+        return compiled(f"any {'mirror ' if form == 'mirror' else ''}piece {kind} {PIECES[kind]}\n" + box(region))
     if kind == "twelve":
         return twelve(size)
     if kind == "blocks" and name not in inputs.EQUAL and size.replace("x", "").isdigit():

@@ -23,14 +23,14 @@ def setting(name, default):
     """A number of the environment, whole where the default is."""
     word = os.environ.get(name, str(default))
     is_number = word.isdigit() if isinstance(default, int) else word.replace(".", "", 1).isdigit()
-    return type(default)(word) if is_number else stop("%s is to be a number" % name)
+    return type(default)(word) if is_number else stop(f"{name} is to be a number")
 
 
 def words_given(words):
     """The number of rounds of a command line, 3 where there is none, and the names of texts after it."""
     rounds = int(words[0]) if words and words[0].isdigit() else 3
     if words and not words[0].isdigit() or not rounds:
-        stop("usage: bench/%s [ROUNDS [NAME ..]], with ROUNDS from 1 on" % os.path.basename(sys.argv[0]))
+        stop(f"usage: bench/{os.path.basename(sys.argv[0])} [ROUNDS [NAME ..]], with ROUNDS from 1 on")
     return rounds, words[1:]
 
 
@@ -59,7 +59,7 @@ def run(words, source, sink):
     child.returncode = os.waitstatus_to_exitcode(status)
     if child.returncode:
         with open(sink + ".err", encoding="latin-1") as told:
-            stop("`%s` ended with status %d: %s" % (" ".join(words), child.returncode, told.read().strip()))
+            stop(f"`{' '.join(words)}` ended with status {child.returncode}: {told.read().strip()}")
     return Run(used.ru_utime, used.ru_utime + used.ru_stime, clock)
 
 
@@ -67,7 +67,7 @@ def run_beside(words, source, sink, copies):
     """Runs so many copies of a program at once: what one of them took in the mean, and how long it was until all had ended."""
     began = time.perf_counter()
     with concurrent.futures.ThreadPoolExecutor(copies) as crew:
-        runs = list(crew.map(lambda place: run(words, source, sink + ".%d" % place if place else sink), range(copies)))
+        runs = list(crew.map(lambda place: run(words, source, sink + f".{place}" if place else sink), range(copies)))
     user, used = (sum(getattr(one, what) for one in runs) / copies for what in ("user", "used"))
     return Run(user, used, time.perf_counter() - began)
 
@@ -116,7 +116,7 @@ def build_c(folder):
 def copy_program(folder):
     """A copy of the program, so that a build beside doesn't change it."""
     if not os.access(POLYLAB, os.X_OK):
-        stop("no %s: run ./polylab --version first, or name the program by POLYLAB" % POLYLAB)
+        stop(f"no {POLYLAB}: run ./polylab --version first, or name the program by POLYLAB")
     return shutil.copy(POLYLAB, os.path.join(folder, "polylab"))
 
 
@@ -142,7 +142,7 @@ def totals(path):
     lines = told.splitlines(keepends=True)
     last = next((at for at, line in enumerate(lines) if line.startswith(b"levels ")), None)
     if last is None or last < 2:
-        return stop("%s has no line `levels`" % path)
+        return stop(f"{path} has no line `levels`")
     visits, steps = (int(line.split()[1]) for line in lines[last - 2 : last])
     return b"".join(lines[: last + 1]), visits, steps
 

@@ -1,25 +1,37 @@
 # Words of polylab for bash: source this file, or put it where bash-completion finds it.
 _polylab() {
     local word=${COMP_WORDS[COMP_CWORD]}
-    local jobs='solve count options cover debug resume'
+    # (of dev/jobs.txt, by dev/do jobs)
+    local jobs='solve count options cover debug resume' scripts='explain'
+    local -A options=(
+        [solve]='--workers --first --table --up-to'
+        [count]='--workers --table --classes --up-to --cache'
+        [options]='--up-to'
+        [cover]='--workers --count --cache --first --table'
+        [debug]='--cover'
+        [resume]='--table --steps --list'
+        [explain]='--cover --up-to'
+    )
+    local -A values=(
+        [--workers]=''
+        [--first]=''
+        [--table]='links bits'
+        [--up-to]='rotations symmetries'
+        [--cache]=''
+        [--steps]=''
+    )
+    # (up to here)
     local choices="" given k
     if [ "$COMP_CWORD" -eq 1 ]; then
-        choices="$jobs explain help --help --version"
-    else
-        case ${COMP_WORDS[1]} in
-            count) choices='--workers --table --classes --up-to --cache --help' ;;
-            debug) choices='--cover --help' ;;
-            explain) choices='--cover --up-to --help' ;;
-            resume) choices='--table --steps --list --help' ;;
-            solve) choices='--workers --first --table --up-to --help' ;;
-            cover) choices='--workers --count --cache --first --table --help' ;;
-            options) choices='--up-to --help' ;;
-            help) [ "$COMP_CWORD" -eq 2 ] && choices=$jobs ;;
-        esac
-        case ${COMP_WORDS[COMP_CWORD - 1]} in
-            --table) choices='links bits' ;;
-            --up-to) choices='rotations symmetries' ;;
-            --workers | --first | --steps | --cache | '<' | '>') choices= ;;
+        choices="$jobs $scripts help --help --version"
+    elif [ "${COMP_WORDS[1]}" = help ]; then
+        [ "$COMP_CWORD" -eq 2 ] && choices=$jobs
+    elif [ "${options[${COMP_WORDS[1]}]+there}" ]; then
+        choices="${options[${COMP_WORDS[1]}]} --help"
+        given=${COMP_WORDS[COMP_CWORD - 1]}
+        case $given in
+            '<' | '>') choices= ;;
+            --*) choices=${values[$given]-$choices} ;;
         esac
         # An option that stands there already is not said again, and after --help nothing is.
         for ((k = 1; k < ${#COMP_WORDS[@]}; k++)); do

@@ -33,7 +33,7 @@ def parts_of(data):
     """The text of an .xmpuzzle file, part by part."""
     if data[:2] != b"\x1f\x8b":
         if len(data) > MOST:
-            stop("this has more than %d bytes" % MOST)
+            stop(f"this has more than {MOST} bytes")
         yield data
         return
     most, count = min(MOST, FIRST + TIMES * len(data)), 0
@@ -42,10 +42,10 @@ def parts_of(data):
             for part in iter(lambda: file.read(PART), b""):
                 count += len(part)
                 if count > most:
-                    stop("this unpacks to more than %d bytes, and no puzzle is packed so well" % most)
+                    stop(f"this unpacks to more than {most} bytes, and no puzzle is packed so well")
                 yield part
     except (OSError, EOFError, zlib.error) as error:
-        stop("this is no whole gzip file: %s" % error)
+        stop(f"this is no whole gzip file: {error}")
 
 
 class Node:
@@ -84,22 +84,22 @@ class Tree:
                 parser.Parse(part)
             parser.Parse(b"", True)
         except xml.parsers.expat.ExpatError as error:
-            stop("this is no .xmpuzzle file: %s" % error)
+            stop(f"this is no .xmpuzzle file: {error}")
 
     def entity(self, name, *_):
         """An entity may stand for any amount of text."""
-        stop("this file declares an entity, `%s`, and no .xmpuzzle file does" % escaped(name))
+        stop(f"this file declares an entity, `{escaped(name)}`, and no .xmpuzzle file does")
 
     def begin(self, tag, attributes):
         """An element begins."""
         if self.top is None and tag != "puzzle":
-            stop("this is no .xmpuzzle file: its first element is <%s>, and not <puzzle>" % escaped(tag))
+            stop(f"this is no .xmpuzzle file: its first element is <{escaped(tag)}>, and not <puzzle>")
         if self.skipped or "/".join([*(node.tag for node in self.open), tag]) not in KEPT:
             self.skipped += 1
             return
         self.kept += 1
         if self.kept > ELEMENTS:
-            stop("this has more than %d shapes, problems and pieces" % ELEMENTS)
+            stop(f"this has more than {ELEMENTS} shapes, problems and pieces")
         node = Node(tag, attributes)
         if self.open:
             self.open[-1].inner.append(node)
@@ -125,8 +125,8 @@ def attribute(node, name):
     """A whole number that an element has."""
     value = node.get(name)
     if value is None or not re.fullmatch("[0-9]{1,9}", str(value)):
-        said = "nothing" if value is None else "`%s`" % value if len(str(value)) < 40 else "%d characters" % len(str(value))
-        stop("<%s> has %s for `%s`, which is no whole number of at most nine digits" % (node.tag, said, name))
+        said = "nothing" if value is None else f"`{value}`" if len(str(value)) < 40 else f"{len(str(value))} characters"
+        stop(f"<{node.tag}> has {said} for `{name}`, which is no whole number of at most nine digits")
     return int(value)
 
 
@@ -134,7 +134,7 @@ class Shape:
     """A shape: its name, and its cells once they are asked for: those that are filled, those that may be, and how many have a colour."""
 
     def __init__(self, number, node):
-        self.name, self.node, self.is_read = escaped(node.get("name") or "S%d" % (number + 1)), node, False
+        self.name, self.node, self.is_read = escaped(node.get("name") or f"S{number + 1}"), node, False
         self.filled, self.spare, self.coloured = [], [], 0
 
     def read(self, most, what):
@@ -144,16 +144,16 @@ class Shape:
         self.is_read, text = True, self.node.text
         wide, high, deep = (attribute(self.node, axis) for axis in "xyz")
         if wide * high * deep > GRID:
-            stop("shape %s has a grid of %d x %d x %d, and no puzzle needs more than %d places" % (self.name, wide, high, deep, GRID))
+            stop(f"shape {self.name} has a grid of {wide} x {high} x {deep}, and no puzzle needs more than {GRID} places")
         drawn = text.count("#") + text.count("+")
         if drawn > most:
-            stop("shape %s is %s, and has %d cells, where the program takes %d" % (self.name, what, drawn, most))
+            stop(f"shape {self.name} is {what}, and has {drawn} cells, where the program takes {most}")
         marks = re.findall(r"[#+_]\d*|\S", text[: 8 * GRID])
         if len(marks) != wide * high * deep:
-            stop("shape %s has %s drawn, and is to have %d x %d x %d" % (self.name, so_many(len(marks)), wide, high, deep))
+            stop(f"shape {self.name} has {so_many(len(marks))} drawn, and is to have {wide} x {high} x {deep}")
         strange = [mark for mark in marks if mark[0] not in "#+_"]
         if strange:
-            stop("shape %s has a mark `%s`, which is none of `#`, `+` and `_`" % (self.name, escaped(strange[0])))
+            stop(f"shape {self.name} has a mark `{escaped(strange[0])}`, which is none of `#`, `+` and `_`")
         for at, mark in enumerate(marks):
             if mark[0] != "_":
                 place = (at % wide, at // wide % high, at // wide // high)
@@ -164,8 +164,8 @@ class Shape:
 
 def listed(names):
     """Names of problems with their numbers, the first ones of many."""
-    told = ", ".join("%d `%s`" % (number, escaped(name)) for number, name in enumerate(names[:SHOWN], 1))
-    return told + (", and %d more" % (len(names) - SHOWN) if len(names) > SHOWN else "")
+    told = ", ".join(f"{number} `{escaped(name)}`" for number, name in enumerate(names[:SHOWN], 1))
+    return told + (f", and {len(names) - SHOWN} more" if len(names) > SHOWN else "")
 
 
 def chosen(problems, name, tell):
@@ -175,13 +175,13 @@ def chosen(problems, name, tell):
     names = [it.get("name") or "" for it in problems]
     if name is None:
         if len(problems) > 1:
-            tell("there are %d problems, and this is the first: %s" % (len(problems), listed(names)))
+            tell(f"there are {len(problems)} problems, and this is the first: {listed(names)}")
         return problems[0]
     if name in names:
         return problems[names.index(name)]
     if re.fullmatch("[0-9]{1,6}", name) and 1 <= int(name) <= len(problems):
         return problems[int(name) - 1]
-    return stop("there is no problem `%s`: there are %s" % (name, listed(names)))
+    return stop(f"there is no problem `{name}`: there are {listed(names)}")
 
 
 def bits(cells):
@@ -212,14 +212,14 @@ def ranges(counts, region, tell):
     there = bits(spare) if spare and max(map(max, spare)) < LIMIT else 0
     for shape, least, most in counts:
         if not shape.filled:
-            stop("shape %s is a piece, and has no cell" % shape.name)
+            stop(f"shape {shape.name} is a piece, and has no cell")
         if least > len(LETTERS):
-            stop("shape %s is laid %d times and more, and the program has %d names" % (shape.name, least, len(LETTERS)))
+            stop(f"shape {shape.name} is laid {least} times and more, and the program has {len(LETTERS)} names")
         fits = room // len(shape.filled)
         is_loose = not least and lies_on(shape, there)
         if is_loose and min(most, fits) == 1:
-            tell("shape %s is laid once or not at all, and could lie on cells alone that may stay empty, but no line of a puzzle text says that:"
-                 " it becomes a `maybe piece`, and the packings in which it lies so are left out" % shape.name)
+            tell(f"shape {shape.name} is laid once or not at all, and could lie on cells alone that may stay empty, but no line of a puzzle text says that:"
+                 " it becomes a `maybe piece`, and the packings in which it lies so are left out")
         yield shape, least, max(least, min(most, fits)), not least and 1 < fits <= most and not is_loose
 
 
@@ -232,7 +232,7 @@ def named(counts):
         taken.update(own)
         many = 1 if is_any else most
         if many > len(own) + len(free):
-            stop("there are more pieces than the %d names that the program has" % len(LETTERS))
+            stop(f"there are more pieces than the {len(LETTERS)} names that the program has")
         names = [*own, *(free.pop(0) for _ in range(many - len(own)))][:many]
         if is_any:
             yield "any piece", names[0], shape
@@ -246,9 +246,9 @@ def lost(problem, used, tell):
     """Tells what a problem and the shapes that it uses have that a puzzle text can't say."""
     coloured = [shape.name for shape in used if shape.coloured]
     if coloured:
-        tell("colours of %s are left out: packings that colours forbid are counted too" % ", ".join(dict.fromkeys(coloured)))
+        tell(f"colours of {', '.join(dict.fromkeys(coloured))} are left out: packings that colours forbid are counted too")
     if problem.get("maxHoles"):
-        tell("the bound of %s on holes is left out: packings with more are counted too" % escaped(problem.get("maxHoles")))
+        tell(f"the bound of {escaped(problem.get('maxHoles'))} on holes is left out: packings with more are counted too")
     if problem.first("bitmap/pair") is not None:
         tell("which colours may lie on which is left out: packings that it forbids are counted too")
 
@@ -259,7 +259,7 @@ def puzzle_of(data):
     grid = top.first("gridType")
     kind = "0" if grid is None else grid.get("type", "0")
     if kind != "0":
-        stop("this puzzle is of %s, and the program knows cubes alone" % GRIDS.get(kind, "a grid of type %s" % escaped(kind)))
+        stop(f"this puzzle is of {GRIDS.get(kind, f'a grid of type {escaped(kind)}')}, and the program knows cubes alone")
     return top
 
 
@@ -267,7 +267,7 @@ def shape_of(node, shapes):
     """The shape that an element names."""
     number = attribute(node, "id")
     if number >= len(shapes):
-        stop("<%s> names shape %d, and there are %d" % (node.tag, number, len(shapes)))
+        stop(f"<{node.tag}> names shape {number}, and there are {len(shapes)}")
     return shapes[number]
 
 
@@ -277,13 +277,13 @@ def counts_of(problem, shapes, tell):
         shape = shape_of(node, shapes)
         least, most = (attribute(node, "count" if node.get(name) is None else name) for name in ("min", "max"))
         if least > most:
-            stop("shape %s is laid %d to %d times" % (shape.name, least, most))
+            stop(f"shape {shape.name} is laid {least} to {most} times")
         if most:
             shape.read(PIECE, "a piece")
         if shape.spare:
-            stop("shape %s is a piece, and has cells that may stay empty (`+`)" % shape.name)
+            stop(f"shape {shape.name} is a piece, and has cells that may stay empty (`+`)")
         if node.inner or node.get("group"):
-            tell("shape %s has groups, which say whether pieces come apart: they are left out, and the packings are the same" % shape.name)
+            tell(f"shape {shape.name} has groups, which say whether pieces come apart: they are left out, and the packings are the same")
         if most:
             yield shape, least, most
 
@@ -299,15 +299,15 @@ def read(data, name, tell):
         stop("the problem has no result: in BurrTools a shape has to be assigned as the one to be filled")
     counts, region = list(counts_of(problem, shapes, tell)), shape_of(result, shapes).read(REGION, "the region")
     if len(counts) > len(LETTERS):
-        stop("there are more pieces than the %d names that the program has" % len(LETTERS))
+        stop(f"there are more pieces than the {len(LETTERS)} names that the program has")
     if not region.filled and not region.spare:
-        stop("shape %s is the region, and has no cell" % region.name)
+        stop(f"shape {region.name} is the region, and has no cell")
     lost(problem, [region, *(shape for shape, _, _ in counts)], tell)
-    pieces, comments = [], ["%s, from BurrTools" % (problem.get("name") or "A problem")]
+    pieces, comments = [], [f"{problem.get('name') or 'A problem'}, from BurrTools"]
     for kind, names, shape in named(list(ranges(counts, region, tell))):
         pieces.append((kind, names, moved(shape.filled)))
         if names != shape.name:
-            comments.append("%s %s shape %s" % (names.replace("+", ""), "is" if len(names) == 1 else "are", shape.name))
+            comments.append(f"{names.replace('+', '')} {'is' if len(names) == 1 else 'are'} shape {shape.name}")
     if not pieces:
         stop("the problem has no piece")
     return pieces, region, [re.sub(r"[^ -~]", "?", it[:200]) for it in comments]
@@ -319,7 +319,7 @@ def voxel(name, filled, spare=()):
     low = least_corner(marks)
     wide, high, deep = size_of(shifted(marks, low, (0, 0, 0)))
     text = "".join(marks.get((x + low[0], y + low[1], z + low[2]), "_") for z in range(deep) for y in range(high) for x in range(wide))
-    return '<voxel x="%d" y="%d" z="%d" type="0" name="%s">%s</voxel>' % (wide, high, deep, html.escape(name), text)
+    return f'<voxel x="{wide}" y="{high}" z="{deep}" type="0" name="{html.escape(name)}">{text}</voxel>'
 
 
 def number_of(puzzle, need, names, cells):
@@ -336,8 +336,12 @@ def written(puzzle, name, tell):
     for number, need, names, mirror, cells in puzzle.said:
         least, most = number_of(puzzle, need, names, cells)
         shapes.append(voxel(names.partition("+")[0][:1] or names[1], cells))
-        counts.append('<shape id="%d" %s/>' % (len(counts) + 1, 'count="%d"' % least if least == most else 'min="%d" max="%d"' % (least, most)))
+        many = f'count="{least}"' if least == most else f'min="{least}" max="{most}"'
+        counts.append(f'<shape id="{len(counts) + 1}" {many}/>')
         if mirror:
-            tell("line %d: BurrTools reflects no piece, so packings with the mirror image of %s are left out there" % (number, names))
-    return '<?xml version="1.0"?>\n<puzzle version="2">\n<gridType type="0"/>\n<colors/>\n<shapes>\n%s\n</shapes>\n<problems>\n<problem name="%s" state="0">\n' \
-        '<shapes>\n%s\n</shapes>\n<result id="0"/>\n<bitmap/>\n</problem>\n</problems>\n</puzzle>\n' % ("\n".join(shapes), html.escape(name), "\n".join(counts))
+            tell(f"line {number}: BurrTools reflects no piece, so packings with the mirror image of {names} are left out there")
+    return "\n".join([
+        '<?xml version="1.0"?>', '<puzzle version="2">', '<gridType type="0"/>', "<colors/>", "<shapes>", *shapes, "</shapes>", "<problems>",
+        f'<problem name="{html.escape(name)}" state="0">', "<shapes>", *counts, "</shapes>", '<result id="0"/>', "<bitmap/>", "</problem>", "</problems>",
+        "</puzzle>", "",
+    ])

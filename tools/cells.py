@@ -19,7 +19,7 @@ def word(place):
 
 def so_many(count):
     """So many cells, as `1 cell`."""
-    return "%d cell%s" % (count, "" if count == 1 else "s")
+    return f"{count} cell{'' if count == 1 else 's'}"
 
 
 def least_corner(cells):

@@ -55,7 +55,7 @@ def is_dark(colour):
 
 def shaded(colour, share):
     """A colour with so much of its red, green and blue."""
-    return "#%02x%02x%02x" % tuple(int(share * int(colour[at : at + 2], 16)) for at in (1, 3, 5))
+    return "#" + "".join(f"{int(share * int(colour[at : at + 2], 16)):02x}" for at in (1, 3, 5))
 
 
 DISTANCES = [[round(distance(one, other), 3) for other in PALETTE] for one in PALETTE]

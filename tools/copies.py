@@ -73,10 +73,10 @@ class Copies:
         if not self.pieces:
             return packing
         if packing.size != self.size:
-            stop("packing %d is of another region than the puzzle" % packing.number)
+            stop(f"packing {packing.number} is of another region than the puzzle")
         way = self.way(packing)
         if way is None:
-            stop("packing %d is none of this puzzle: its pieces that are used any number of times have other shapes" % packing.number)
+            stop(f"packing {packing.number} is none of this puzzle: its pieces that are used any number of times have other shapes")
         return self.marked(packing, way)
 
     def only(self, packing):

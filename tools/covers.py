@@ -30,9 +30,9 @@ class Cover(Reader):
         """One line by its words."""
         kind, rest = words[0], words[1:]
         if kind[0] not in ("items", "maybe", "option"):
-            self.stop("BadLine", "`%s` is no first word of a line: these are `items`, `maybe` and `option`" % kind[0][:40], kind)
+            self.stop("BadLine", f"`{kind[0][:40]}` is no first word of a line: these are `items`, `maybe` and `option`", kind)
         if not rest:
-            self.stop("BadLine", "`%s` names no item" % kind[0], kind)
+            self.stop("BadLine", f"`{kind[0]}` names no item", kind)
         if kind[0] == "items" and self.must is not None:
             self.stop("BadLine", "there was a line `items` before", kind)
         if kind[0] == "maybe" and self.has_maybe:
@@ -51,14 +51,14 @@ class Cover(Reader):
             for word in rest:
                 with self.going_on():
                     if self.named(word) in self.items:
-                        self.stop("RepeatedItem", "an item %s came before" % word[0], word)
+                        self.stop("RepeatedItem", f"an item {word[0]} came before", word)
                     self.items[word[0]] = len(self.items)
             self.must = len(self.items) if kind[0] == "items" else self.must
             self.has_maybe = self.has_maybe or kind[0] == "maybe"
         if (len(self.items) > ITEMS or len(self.options) > OPTIONS or self.table() > TABLE) and not self.is_large:
             self.is_large = True
-            self.stop("TooLarge", "with this line there are %d items of at most %d, %d options of at most %d, and a table of %d of at most %d" % (
-                len(self.items), ITEMS, len(self.options), OPTIONS, self.table(), TABLE), kind)
+            sizes = f"{len(self.items)} items of at most {ITEMS}, {len(self.options)} options of at most {OPTIONS}"
+            self.stop("TooLarge", f"with this line there are {sizes}, and a table of {self.table()} of at most {TABLE}", kind)
 
     def read_option(self, rest):
         """One option by its words."""
@@ -66,9 +66,9 @@ class Cover(Reader):
         for word in rest:
             with self.going_on():
                 if self.named(word) not in self.items:
-                    self.stop("UnknownItem", "no line names an item %s" % word[0], word)
+                    self.stop("UnknownItem", f"no line names an item {word[0]}", word)
                 if self.items[word[0]] in found:
-                    self.stop("ItemTwiceInOption", "the item %s comes twice" % word[0], word)
+                    self.stop("ItemTwiceInOption", f"the item {word[0]} comes twice", word)
                 found[self.items[word[0]]] = True
         self.options.append(list(found))
         self.lines.append(self.number)
@@ -77,5 +77,5 @@ class Cover(Reader):
     def named(self, word):
         """The name of an item that a word spells."""
         if not NAME.fullmatch(word[0]):
-            self.stop("BadName", "`%s` is no name of an item: one to eight of 0-9, A-Z, a-z and _" % word[0][:40], word)
+            self.stop("BadName", f"`{word[0][:40]}` is no name of an item: one to eight of 0-9, A-Z, a-z and _", word)
         return word[0]

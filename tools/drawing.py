@@ -23,9 +23,9 @@ class Drawing:
             self.laid = [way for option in options for way in [next((it for it in ways if is_way(it, option)), None)] if way]
         for way, option in zip(self.laid, options):
             if not is_way(way, option):
-                stop("an option of the program is another one here: %s" % " ".join(option)[:60])
+                stop(f"an option of the program is another one here: {' '.join(option)[:60]}")
         if len(options) < len(self.laid) or any(is_cell(item) for option in options[len(self.laid) :] for item in option):
-            stop("the program has %d options, and here are %d ways to lay a piece" % (len(options), len(self.laid)))
+            stop(f"the program has {len(options)} options, and here are {len(self.laid)} ways to lay a piece")
 
     def rows(self, options):
         """The lines by which a packing is drawn, of the numbers of its options."""

@@ -36,4 +36,4 @@ def meant(line, fault, words):
     if found.startswith(COMMENTS):
         return "; a comment begins with `#`"
     near = difflib.get_close_matches(found.lower(), words, 1, 0.6) if "no first word" in fault.what else []
-    return "; is `%s` meant?" % near[0] if near else ""
+    return f"; is `{near[0]}` meant?" if near else ""

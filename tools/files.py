@@ -24,7 +24,7 @@ def write_new(path, text):
 def beside(path):
     """A new file beside another, whose name has something by chance that nobody can foresee: that name, and the file, open for writing."""
     while True:
-        new = "%s.%s.new" % (path, secrets.token_hex(4))
+        new = f"{path}.{secrets.token_hex(4)}.new"
         with contextlib.suppress(FileExistsError), naming(new):
             return new, created(new)
 
@@ -51,12 +51,12 @@ def own_file(path):
         number = os.open(path, os.O_RDWR | os.O_CREAT | os.O_NOFOLLOW | os.O_NONBLOCK | os.O_CLOEXEC, 0o666)
     except OSError:
         if os.path.islink(path):
-            stop("%s is a link, and nothing is written through it: take it away" % path)
+            stop(f"{path} is a link, and nothing is written through it: take it away")
         raise
     found = os.fstat(number)
     if not stat.S_ISREG(found.st_mode) or found.st_nlink > 1:
         os.close(number)
-        stop("%s is no file of its own, and isn't written to: take it away" % path)
+        stop(f"{path} is no file of its own, and isn't written to: take it away")
     return number
 
 
@@ -66,5 +66,5 @@ def read_plain(path):
         # (without waiting for whoever writes to a pipe)
         with open(os.open(path, os.O_RDONLY | os.O_NONBLOCK | os.O_CLOEXEC), "rb") as file:
             if not stat.S_ISREG(os.fstat(file.fileno()).st_mode):
-                stop("%s is a folder, a device or a pipe, and a file has to stand here" % path)
+                stop(f"{path} is a folder, a device or a pipe, and a file has to stand here")
             return file.read().decode("latin-1")

@@ -34,11 +34,11 @@ class Fitting:
         for at, mark in enumerate(packing.marks):
             found[mark].append(at)
         if packing.size != self.size or found.pop(".", []) != self.outside:
-            stop("packing %d is of another region than the puzzle" % packing.number)
+            stop(f"packing {packing.number} is of another region than the puzzle")
         if not self.optional.issuperset(found.pop("_", ())):
-            stop("packing %d is none of this puzzle: a cell is empty that has to be filled" % packing.number)
+            stop(f"packing {packing.number} is none of this puzzle: a cell is empty that has to be filled")
         if not self.used <= found.keys():
-            stop("packing %d is none of this puzzle: it is without the piece %s" % (packing.number, min(self.used - found.keys())))
+            stop(f"packing {packing.number} is none of this puzzle: it is without the piece {min(self.used - found.keys())}")
         pieces = {mark: tuple(cells) for mark, cells in found.items()}
         for mark, cells in pieces.items():
             if (mark[0], cells) not in self.known:
@@ -48,9 +48,9 @@ class Fitting:
     def look(self, packing, name, cells):
         """Checks a way to lay a piece. (A copy of an `any piece` is named by the piece and a number.)"""
         if name not in self.shapes:
-            stop("packing %d is none of this puzzle, which has no piece %s" % (packing.number, name))
+            stop(f"packing {packing.number} is none of this puzzle, which has no piece {name}")
         if moved([self.places[at] for at in cells]) not in self.shapes[name]:
-            stop("packing %d is none of this puzzle, whose piece %s has another shape" % (packing.number, name))
+            stop(f"packing {packing.number} is none of this puzzle, whose piece {name} has another shape")
         if len(self.known) >= KEPT:
             self.known.clear()
         self.known.add((name, cells))

@@ -52,7 +52,7 @@ def opened(path):
     if sys.stdin is None:
         stop("standard input is closed")
     if sys.stdin.isatty():
-        print("%s: reading from the terminal, up to Ctrl-D" % NAME, file=sys.stderr)
+        print(f"{NAME}: reading from the terminal, up to Ctrl-D", file=sys.stderr)
     with naming("standard input"):
         yield sys.stdin.buffer
 
@@ -83,7 +83,7 @@ class Progress:
         if time.monotonic() >= self.next:
             self.next += self.every
             if sys.stderr is not None and sys.stderr.isatty():
-                print("%s: %d %s so far" % (NAME, count, self.what), file=sys.stderr, flush=True)
+                print(f"{NAME}: {count} {self.what} so far", file=sys.stderr, flush=True)
 
 
 def escaped(text):
@@ -93,7 +93,7 @@ def escaped(text):
 
 def wrong(word, what):
     """Ends the script for a word of its command line."""
-    print("%s: %s: %s (%s --help prints the words)" % (NAME, escaped(word), what, NAME), file=sys.stderr)
+    print(f"{NAME}: {escaped(word)}: {what} ({NAME} --help prints the words)", file=sys.stderr)
     sys.exit(2)
 
 
@@ -102,7 +102,7 @@ def whole(least, most):
 
     def read(word):
         if not (word.isdecimal() and word.isascii() and least <= int(word) <= most):
-            raise ValueError("a whole number from %d to %d has to stand here" % (least, most))
+            raise ValueError(f"a whole number from {least} to {most} has to stand here")
         return int(word)
 
     return read
@@ -113,7 +113,7 @@ def decimal(least, most):
 
     def read(word):
         if not (re.fullmatch(r"[0-9]{1,9}(\.[0-9]{1,9})?", word) and least <= float(word) <= most):
-            raise ValueError("a number from %g to %g has to stand here" % (least, most))
+            raise ValueError(f"a number from {least:g} to {most:g} has to stand here")
         return float(word) if "." in word else int(word)
 
     return read
@@ -145,7 +145,7 @@ def given(words, flags, values, names):
             try:
                 options[name] = values[name](value)
             except ValueError as fault:
-                wrong("%s %s" % (name, value), fault)
+                wrong(f"{name} {value}", fault)
         elif word.startswith("-") and word != "-":
             wrong(word, "there is no such option")
         else:
@@ -172,15 +172,15 @@ def run(main, doc, names=("[FILE]",), flags=(), values=None):
     except BrokenPipeError:
         status = 1
     except KeyboardInterrupt:
-        status = "%s: stopped" % NAME
+        status = f"{NAME}: stopped"
     except Stop as why:
-        status = "%s: %s" % (NAME, "\n".join(map(escaped, installed_words(str(why)).split("\n"))))
+        status = f"{NAME}: " + "\n".join(map(escaped, installed_words(str(why)).split("\n")))
     except OSError as error:
-        status = "%s: %s: %s" % (NAME, escaped(str(error.filename or "standard output")), error.strerror or error)
+        status = f"{NAME}: {escaped(str(error.filename or 'standard output'))}: {error.strerror or error}"
     except MemoryError:
-        status = "%s: there is not enough memory" % NAME
+        status = f"{NAME}: there is not enough memory"
     except (ValueError, LookupError) as error:
-        status = "%s: what was read isn't what this script reads (%s)" % (NAME, error)
+        status = f"{NAME}: what was read isn't what this script reads ({error})"
     # What can't be written isn't tried again when Python ends.
     if status:
         with contextlib.suppress(OSError):
@@ -207,7 +207,7 @@ def told(main, doc, words, names, flags, values):
         print(installed_words(doc.strip()))
         return 0
     if "-V" in asked or "--version" in asked:
-        print("%s of Polylab %s" % (NAME, VERSION))
+        print(f"{NAME} of Polylab {VERSION}")
         return 0
     if asked == ["--words"]:
         print(*sorted(["--help", "--version", *flags, *values]), sep="\n")

@@ -3,29 +3,50 @@
 # the file in which the build wrote its revision (`stamp`), how tools/slices is called there (`slices`), and tools/explain (`explain`).
 # shellcheck shell=sh disable=SC2154
 
+# (of dev/jobs.txt, by dev/do jobs)
+jobs='solve count options cover debug resume'
+long='solve count cover'
+explained='solve count options cover'
+valued='--workers --first --table --up-to --cache --steps'
+plain='--classes --count --cover --list'
+# (up to here)
+
+# Whether a word is one of these.
+is_one_of() {
+    case $1 in
+        '' | *' '*) return 1 ;;
+    esac
+    case " $2 " in
+        *" $1 "*) return 0 ;;
+    esac
+    return 1
+}
+
 # Finds the files among the words of a job: how many they are, the first two, and at which place the first one is, and a word `--`. Where a
 # word is no option of a job, none is looked for, and the program refuses all words as they are, or prints its help.
 find_files() {
     files=0 file='' second='' place=0 dashes=0 at=1 group=''
-    case ${1:-} in
-        solve | count | options | cover | debug | resume) shift ;;
-        *) return ;;
-    esac
+    is_one_of "${1:-}" "$jobs" || return 0
+    shift
     while [ $# -gt 0 ]; do
         at=$((at + 1))
         case $dashes:$1 in
             0:--) dashes=$at ;;
-            0:--workers | 0:--first | 0:--table | 0:--steps | 0:--up-to | 0:--cache)
-                # (what follows is the option's number or word, and not a file)
-                [ $# -gt 1 ] || return
-                [ "$1" != --up-to ] || group=$2
-                at=$((at + 1))
-                shift
+            0:--*=*)
+                is_one_of "${1%%=*}" "$valued" || { files=0; return; }
+                [ "${1%%=*}" != --up-to ] || group=${1#*=}
                 ;;
-            0:--up-to=*) group=${1#*=} ;;
-            0:--workers=* | 0:--first=* | 0:--table=* | 0:--steps=* | 0:--cache=* | 0:--classes | 0:--cover | 0:--list | 0:--count) ;;
             0:-?*)
-                [ "$1" = - ] || { files=0; return; }
+                if is_one_of "$1" "$valued"; then
+                    # (what follows is the option's number or word, and not a file)
+                    [ $# -gt 1 ] || return 0
+                    [ "$1" != --up-to ] || group=$2
+                    at=$((at + 1))
+                    shift
+                elif ! is_one_of "$1" "$plain"; then
+                    files=0
+                    return
+                fi
                 ;;
             *) name_file "$1" ;;
         esac
@@ -127,24 +148,18 @@ start() {
         waits=
         for word; do
             case $word in
-                solve | count | options | cover | debug | resume) waits=1 ;;
                 -h | --help | -V | --version | help) waits=; break ;;
             esac
+            if is_one_of "$word" "$jobs"; then waits=1; fi
         done
         [ -z "$waits" ] || echo "polylab: reading from the terminal, up to Ctrl-D; a file is given as: polylab ${typed% -} FILE" >&2
     fi
-    if [ -t 2 ] && [ ! -t 0 ]; then
-        case ${1:-} in
-            solve | count | cover)
-                # (a shell may give a job in the background another standard input before it looks at `3<&0`)
-                exec 3<&0
-                tell_later "$1" < /dev/null > /dev/null &
-                exec 3<&-
-                ;;
-        esac
+    if [ -t 2 ] && [ ! -t 0 ] && is_one_of "${1:-}" "$long"; then
+        # (a shell may give a job in the background another standard input before it looks at `3<&0`)
+        exec 3<&0
+        tell_later "$1" < /dev/null > /dev/null &
+        exec 3<&-
     fi
-    case ${1:-} in
-        solve | count | options | cover) [ ! -t 2 ] || run_and_explain "$@" ;;
-    esac
+    if [ -t 2 ] && is_one_of "${1:-}" "$explained"; then run_and_explain "$@"; fi
     exec "$program" "$@"
 }

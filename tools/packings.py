@@ -69,7 +69,7 @@ class Solved:
                 rows.append(words)
                 continue
             if not (words[1].isascii() and words[1].isdecimal()):
-                raise Stop("the line `%s` has no number" % line)
+                raise Stop(f"the line `{line}` has no number")
             if number is not None:
                 self.count += 1
                 progress.tell(self.count)
@@ -88,23 +88,23 @@ class Solved:
         if self.is_first:
             raise Stop("these are the first packings alone, and all are needed: `solve` prints them without --first")
         if self.group and self.group not in groups:
-            raise Stop("this is one packing of each class by %s, and all are needed: `solve` prints them without --up-to" % self.group)
+            raise Stop(f"this is one packing of each class by {self.group}, and all are needed: `solve` prints them without --up-to")
         if self.total != self.count:
-            raise Stop("this isn't all that `solve` printed: the last line says %d, and %d packings were read" % (self.total, self.count))
+            raise Stop(f"this isn't all that `solve` printed: the last line says {self.total}, and {self.count} packings were read")
 
 
 def packing(number, rows):
     """A packing by the words of its lines."""
     size = size_drawn(rows)
     if size is None:
-        raise Stop("packing %d isn't drawn as a box" % number)
+        raise Stop(f"packing {number} isn't drawn as a box")
     marks = "".join(["".join(row) for row in rows])
     strange = set(marks) - MARKS
     if strange:
         # (a mark becomes a part of pictures and of names of files)
-        raise Stop("packing %d has the mark `%s`, which is no name of a piece" % (number, escaped(min(strange))))
+        raise Stop(f"packing {number} has the mark `{escaped(min(strange))}`, which is no name of a piece")
     if not marks.strip("."):
-        raise Stop("packing %d has no cell" % number)
+        raise Stop(f"packing {number} has no cell")
     return Packing(number, size, marks)
 
 

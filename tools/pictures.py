@@ -22,7 +22,8 @@ ASIDE = 5  # what is left free between two pieces
 def text(x, y, words, style=""):
     """Words at a point."""
     words = words.replace("&", "&amp;").replace("<", "&lt;")
-    return '<text x="%.1f" y="%.1f"%s>%s</text>' % (x, y, style and ' class="%s"' % style, words)
+    of_class = style and f' class="{style}"'
+    return f'<text x="{x:.1f}" y="{y:.1f}"{of_class}>{words}</text>'
 
 
 def layer_parts(marks, paints, z, left, top):
@@ -31,15 +32,15 @@ def layer_parts(marks, paints, z, left, top):
     for (x, y), mark in sorted(flat.items()):
         at = (left + x * SIDE, top + y * SIDE)
         fill = "#ffffff" if mark == "_" else paints[mark]
-        yield '<rect x="%d" y="%d" width="%d" height="%d" fill="%s"/>' % (at + (SIDE, SIDE, fill))
+        yield f'<rect x="{at[0]}" y="{at[1]}" width="{SIDE}" height="{SIDE}" fill="{fill}"/>'
         if mark != "_":
             yield text(at[0] + SIDE / 2, at[1] + SIDE / 2 + 5, mark, "light" if is_dark(fill) else "")
     for (x, y), mark in sorted(flat.items()):
         here = (left + x * SIDE, top + y * SIDE)
         for dx, dy, ends in ((-1, 0, (0, 0, 0, 1)), (1, 0, (1, 0, 1, 1)), (0, -1, (0, 0, 1, 0)), (0, 1, (0, 1, 1, 1))):
             if flat.get((x + dx, y + dy)) != mark:
-                points = tuple(here[k % 2] + ends[k] * SIDE for k in range(4))
-                yield '<path d="M%d %d L%d %d" stroke="#222" stroke-width="2"/>' % points
+                a, b, c, d = (here[k % 2] + ends[k] * SIDE for k in range(4))
+                yield f'<path d="M{a} {b} L{c} {d}" stroke="#222" stroke-width="2"/>'
 
 
 def arrow(start, end, name):
@@ -47,8 +48,9 @@ def arrow(start, end, name):
     long = max(1e-9, ((end[0] - start[0]) ** 2 + (end[1] - start[1]) ** 2) ** 0.5)
     dx, dy = (end[0] - start[0]) / long, (end[1] - start[1]) / long
     wings = [end[0] - 6 * dx + 3 * dy, end[1] - 6 * dy - 3 * dx, end[0] - 6 * dx - 3 * dy, end[1] - 6 * dy + 3 * dx]
-    yield '<path d="M%.1f %.1f L%.1f %.1f" stroke="#666"/>' % (*start, *end)
-    yield '<path d="M%.1f %.1f L%.1f %.1f L%.1f %.1f Z" fill="#666"/>' % (*end, *wings)
+    begin, tip, left, right = (f"{x:.1f} {y:.1f}" for x, y in (start, end, wings[:2], wings[2:]))
+    yield f'<path d="M{begin} L{tip}" stroke="#666"/>'
+    yield f'<path d="M{tip} L{left} L{right} Z" fill="#666"/>'
     yield text(end[0] + 9 * dx, end[1] + 9 * dy + 4, name, "axis")
 
 
@@ -149,19 +151,19 @@ def drawn_faces(faces, paints, left, top):
     move, spots, parts = (left - min(across), top - min(down)), {}, []
     for mark, light, corners in faces:
         spots[mark] = [sum(point[k] for point in corners) / 4 + move[k] for k in range(2)]
-        points = " ".join("%.1f,%.1f" % (a + move[0], b + move[1]) for a, b in corners)
-        parts.append('<polygon points="%s" fill="%s" stroke="#222" stroke-linejoin="round"/>' % (points, shaded(paints[mark], light)))
+        points = " ".join(f"{a + move[0]:.1f},{b + move[1]:.1f}" for a, b in corners)
+        parts.append(f'<polygon points="{points}" fill="{shaded(paints[mark], light)}" stroke="#222" stroke-linejoin="round"/>')
     return parts, max(across) - min(across), max(down) - min(down), spots
 
 
 def picture(number, marks, paints, start, top):
     """The parts of one packing's picture, to the right of `start` and below `top`, and its width and height."""
     wide, high, layers = size_of(marks)
-    parts = [text(start + GAP, top + GAP, "packing %d" % number, "left")]
+    parts = [text(start + GAP, top + GAP, f"packing {number}", "left")]
     left, under = start + 2 * GAP, top + 3 * GAP + 6
     for z in range(layers):
         if layers > 1:
-            parts.append(text(left, under - 8, "layer z = %d" % z, "left axis"))
+            parts.append(text(left, under - 8, f"layer z = {z}", "left axis"))
         parts += layer_parts(marks, paints, z, left, under)
         left += max(wide * SIDE + GAP, 80 if layers > 1 else 0)
     parts += arrow((start + 2 * GAP, under + high * SIDE + 10), (start + 2 * GAP + 26, under + high * SIDE + 10), "x")
@@ -190,5 +192,5 @@ def page_of(pictures, columns):
             more, width, height = make(left, top)
             parts, left, high = parts + more, left + width, max(high, height)
         wide, top = max(wide, left), top + high
-    head = '<svg xmlns="http://www.w3.org/2000/svg" width="%d" height="%d" viewBox="0 0 %d %d">' % ((wide, top) * 2)
+    head = f'<svg xmlns="http://www.w3.org/2000/svg" width="{wide}" height="{top}" viewBox="0 0 {wide} {top}">'
     return "\n".join([head, STYLE, '<rect width="100%" height="100%" fill="#ffffff"/>', *parts, "</svg>", ""])

@@ -17,7 +17,8 @@ USED_OF_FIVE = {
     "Y": "000 100 200 300 110", "Z": "000 100 110 120 220",
 }
 # The pieces of the Soma cube: V, and those of these names.
-SOMA = "".join("piece %s %s\n" % (name, {**USED, "V": "000 100 010"}[name]) for name in "VLTZABP")
+SOMA_CELLS = {**USED, "V": "000 100 010"}
+SOMA = "".join(f"piece {name} {SOMA_CELLS[name]}\n" for name in "VLTZABP")
 
 
 def order(put):

@@ -38,7 +38,7 @@ class Refused(Exception):
     """The program ended with a status other than 0: its words, and what they name."""
 
     def __init__(self, status, said):
-        super().__init__(said or "polylab ended with status %d" % status)
+        super().__init__(said or f"polylab ended with status {status}")
         self.status = status
         named = re.search(r"refused \w+ \d+ (\w+)(?: line (\d+))?", said)
         self.fault = named[1] if named else None

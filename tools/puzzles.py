@@ -56,10 +56,10 @@ class Puzzle(Reader):
         need, mirror, after = (taken[0] if taken[:1] in (["maybe"], ["any"]) else ""), "mirror" in taken, " ".join(taken)
         wanted = KINDS[need, mirror]
         if not words:
-            self.stop("BadLine", "after `%s` comes %s" % (after, " or ".join("`%s`" % it for it in wanted)), first)
+            self.stop("BadLine", f"after `{after}` comes {' or '.join(f'`{it}`' for it in wanted)}", first)
         kind, rest = words[0], words[1:]
         if kind[0] not in wanted:
-            self.stop("BadLine", "`%s` is no first word of a line%s" % (kind[0], " after `%s`" % after if after else ""), kind)
+            self.stop("BadLine", f"`{kind[0]}` is no first word of a line{f' after `{after}`' if after else ''}", kind)
         maybe = need == "maybe"
         if kind[0] in ("piece", "copies"):
             self.read_piece(kind, rest, need, mirror)
@@ -67,7 +67,7 @@ class Puzzle(Reader):
             self.read_box(kind, rest)
         else:
             if not rest:
-                self.stop("BadLine", "`%s` names no cell" % kind[0], kind)
+                self.stop("BadLine", f"`{kind[0]}` names no cell", kind)
             places = self.read_cells(rest)
             {"cut": self.cut, "cells": self.spare if maybe else self.filled}[kind[0]].update(places)
             self.named.append((self.number, "maybe" if maybe else kind[0], places))
@@ -79,7 +79,7 @@ class Puzzle(Reader):
         """A line `piece` or `copies`: each of its names is a piece."""
         several = kind[0] == "copies"
         if len(rest) < 2:
-            self.stop("BadLine", "`%s` needs %s and cells" % (kind[0], "names" if several else "a name"), kind)
+            self.stop("BadLine", f"`{kind[0]}` needs {'names' if several else 'a name'} and cells", kind)
         word = rest[0]
         sure, plus, spare = word[0].partition("+") if several else (word[0], "", "")
         names = sure + spare
@@ -89,11 +89,11 @@ class Puzzle(Reader):
                 what = "doesn't name two pieces or more: two or more digits and letters, of which those after one `+` may be left out"
             if need == "any":
                 what = "is no name of a piece: one digit or letter, or more by which its copies are drawn in turn"
-            self.stop("BadLine", "`%s` %s" % (word[0], what), word)
+            self.stop("BadLine", f"`{word[0]}` {what}", word)
         with self.going_on():
             for at, name in enumerate(names):
                 if name in names[:at] or any(name in piece.symbols for piece in self.pieces):
-                    self.stop("RepeatedPiece", "a piece %s came before" % name, word)
+                    self.stop("RepeatedPiece", f"a piece {name} came before", word)
         cells = self.read_cells(rest[1:], True)
         self.said.append((self.number, need, word[0], mirror, cells))
         if need == "any":
@@ -106,16 +106,16 @@ class Puzzle(Reader):
     def read_box(self, kind, rest):
         """A line `box`: its numbers are looked at before whether it may come, as the program does."""
         if len(rest) != 3:
-            self.stop("BadLine", "`box` has three numbers, and here are %d" % len(rest), kind)
+            self.stop("BadLine", f"`box` has three numbers, and here are {len(rest)}", kind)
         for word in rest:
             if not (word[0].isdigit() and word[0][0] != "0"):
-                self.stop("BadLine", "`%s` is no number from 1 to 32" % word[0], word)
+                self.stop("BadLine", f"`{word[0]}` is no number from 1 to 32", word)
         if self.has_box:
             self.stop("SecondBox", "there was a line `box` before", kind)
         self.has_box = True
         for word in rest:
             if len(word[0]) > 2 or int(word[0]) > 32:
-                self.stop("TooLarge", "`%s` is above 32" % word[0], word)
+                self.stop("TooLarge", f"`{word[0]}` is above 32", word)
         places = list(product(*(range(int(size)) for size, _ in rest)))
         self.filled.update(places)
         self.named.append((self.number, "box", places))
@@ -129,7 +129,7 @@ class Puzzle(Reader):
                     self.stop("TooLarge", "a piece has at most 64 cells", word)
                 place = self.read_cell(word)
                 if of_piece and place in found:
-                    self.stop("RepeatedCell", "the cell %s comes twice" % word[0], word)
+                    self.stop("RepeatedCell", f"the cell {word[0]} comes twice", word)
                 found[place] = True
                 continue
             if of_piece and len(found) == 64:
@@ -139,10 +139,10 @@ class Puzzle(Reader):
     def read_cell(self, word):
         """The cell that a word names."""
         if len(word[0]) != 3:
-            self.stop("BadCell", "`%s` is no cell: it needs three characters, for x, y and z, and has %d" % (word[0][:40], len(word[0])), word)
+            self.stop("BadCell", f"`{word[0][:40]}` is no cell: it needs three characters, for x, y and z, and has {len(word[0])}", word)
         for at, mark in enumerate(word[0]):
             if mark not in DIGITS:
-                self.stop("BadCell", "`%s` stands for no coordinate: these are 0 to 9 and a to v" % mark, (mark, word[1] + at))
+                self.stop("BadCell", f"`{mark}` stands for no coordinate: these are 0 to 9 and a to v", (mark, word[1] + at))
         return cell(word[0])
 
 

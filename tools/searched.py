@@ -22,7 +22,7 @@ def moves(command, replies):
 
 def named(option, options):
     """An option with its items."""
-    return "%s = %s" % (option, options[option]) if options.get(option) else str(option)
+    return f"{option} = {options[option]}" if options.get(option) else str(option)
 
 
 def named_in(reply):
@@ -47,20 +47,20 @@ def says(row, options):
     if label == "X2":
         if not row["shown"]:
             return "looks whether an item is left to cover"
-        return "finds %s left to cover" % counted(len(row["active"]), "item") if least else "finds nothing left to cover: an exact cover"
+        return f"finds {counted(len(row['active']), 'item')} left to cover" if least else "finds nothing left to cover: an exact cover"
     if label == "X3":
-        return "chooses %s, which has the fewest options left, %s" % (least[0], len(least[1]) or "none") if least else "chooses an item"
+        return f"chooses {least[0]}, which has the fewest options left, {len(least[1]) or 'none'}" if least else "chooses an item"
     if label == "X4":
         first = row["chosen"][1][0] if row["chosen"] and row["chosen"][1] else None
-        return "covers %s, %s" % (chosen, "and takes up option %s" % named(first, options) if first else "which has no option to take up")
+        return f"covers {chosen}, {f'and takes up option {named(first, options)}' if first else 'which has no option to take up'}"
     if label == "X5" and cursor == "past":
-        return "finds no option of %s left to try" % chosen
+        return f"finds no option of {chosen} left to try"
     if label == "X5":
-        return "tries option %s: covers its other items" % named(cursor, options)
+        return f"tries option {named(cursor, options)}: covers its other items"
     if label == "X6":
-        return "takes option %s back: uncovers its other items" % named(cursor, options)
+        return f"takes option {named(cursor, options)} back: uncovers its other items"
     if label == "X7":
-        return "uncovers %s" % chosen
+        return f"uncovers {chosen}"
     if label == "X8":
         return "goes back to the choice before" if path else "finds no choice before: the search ends"
     return "the search has ended"
@@ -68,7 +68,7 @@ def says(row, options):
 
 def counted(many, what):
     """So many things, as `1 item`."""
-    return "%s %s%s" % (many, what, "" if many == 1 else "s")
+    return f"{many} {what}{'' if many == 1 else 's'}"
 
 
 class Row:
@@ -186,25 +186,25 @@ class Tree:
 
 def spoilt(number, what):
     """Ends the script: a line of a transcript isn't what tools/session prints."""
-    stop("line %d isn't what tools/session prints: %s" % (number, what))
+    stop(f"line {number} isn't what tools/session prints: {what}")
 
 
 def check_state(number, words, options):
     """Ends the script unless a line `at` tells a state: a label, a cursor, and the options taken, which are among those that were told."""
     if len(words) < 3 or words[1] not in LABELS or not all(map(NUMBER.fullmatch, words[3:])):
-        spoilt(number, "`%s` tells no state" % " ".join(words)[:60])
+        spoilt(number, f"`{' '.join(words)[:60]}` tells no state")
     if words[2] not in ("-", "past") and not NUMBER.fullmatch(words[2]):
-        spoilt(number, "`%s` is no cursor: these are `-`, `past`, and options" % words[2][:20])
+        spoilt(number, f"`{words[2][:20]}` is no cursor: these are `-`, `past`, and options")
     strange = [word for word in words[2:] if word not in ("-", "past", *options)]
     if options and strange:
-        spoilt(number, "there is no option %s: the problem has %d" % (strange[0], len(options)))
+        spoilt(number, f"there is no option {strange[0]}: the problem has {len(options)}")
 
 
 def check_options(number, options):
     """Ends the script unless the options that were told of a problem are all up to the last."""
     missing = next((at for at in range(1, len(options) + 1) if str(at) not in options), None)
     if missing:
-        spoilt(number, "the problem has no option %d before it, and has %d others" % (missing, len(options)))
+        spoilt(number, f"the problem has no option {missing} before it, and has {len(options)} others")
 
 
 class Transcript:
@@ -241,7 +241,7 @@ class Transcript:
         """A line of the problem, or of an option that a reply named."""
         if words[2:3] == ["="]:
             if not NUMBER.fullmatch(words[1]):
-                spoilt(number, "`%s` is no number of an option" % words[1][:20])
+                spoilt(number, f"`{words[1][:20]}` is no number of an option")
             self.options[words[1]] = " ".join(words[3:])
         elif words[1:2] in (["items"], ["maybe"]):
             self.problem[words[1]] = words[2:]
@@ -252,7 +252,7 @@ class Transcript:
         if words[:1] == ["at"]:
             check_state(number, words, self.options if self.is_whole else {})
         if words[:1] == ["moved"] and len(words) == 2 and not re.fullmatch("[0-9]{1,20}", words[1]):
-            spoilt(number, "`%s` is no number of steps" % words[1][:20])
+            spoilt(number, f"`{words[1][:20]}` is no number of steps")
         self.rows[-1].read(line)
 
 
@@ -289,7 +289,7 @@ def search_of(lines):
         replies = row.replies if row.command != "show" else []
         names = dict.fromkeys(it for reply in replies for it in named_in(reply) if it.isdecimal() and it in options)
         shown.append({**told, "command": row.command, "replies": replies, "named": list(names), "number": number, "node": node,
-            "row": "%s %s" % ("-" if number is None else number, state) if told["label"] else row.command,
+            "row": f"{'-' if number is None else number} {state}" if told["label"] else row.command,
             "says": says(told, options) if told["label"] else ""})
     return {"rows": shown, "options": options, "tree": tree.nodes, "covers": covers, "board": board(problem, options) if is_puzzle else None,
         "palette": PALETTE, "distances": DISTANCES}

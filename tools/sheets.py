@@ -32,9 +32,10 @@ figure svg text { font: bold 9px sans-serif; text-anchor: middle; dominant-basel
 def page(title, body):
     """A whole page."""
     title = html.escape(title)
-    return "<!doctype html>\n<html lang=en><meta charset=utf-8><meta name=viewport content='width=device-width'>\n<title>%s</title>\n" \
-        "<style>%s</style>\n<h1>%s</h1>\n%s\n</html>\n" % (
-        title, STYLE, title, "\n".join(body))
+    return "\n".join([
+        "<!doctype html>", "<html lang=en><meta charset=utf-8><meta name=viewport content='width=device-width'>", f"<title>{title}</title>",
+        f"<style>{STYLE}</style>", f"<h1>{title}</h1>", *body, "</html>", "",
+    ])
 
 
 def squares(cells, unit, name, fill, spare=()):
@@ -43,25 +44,25 @@ def squares(cells, unit, name, fill, spare=()):
     parts = []
     for x, y, z in sorted(there):
         dashed = ' stroke-dasharray="3 2"' if (x, y, z) in spare else ""
-        parts.append('<rect x="%d" y="%d" width="20" height="20" fill="%s" stroke="#999" stroke-width=".5"%s/>' % (20 * x, 20 * y, fill, dashed))
+        parts.append(f'<rect x="{20 * x}" y="{20 * y}" width="20" height="20" fill="{fill}" stroke="#999" stroke-width=".5"{dashed}/>')
         for dx, dy, line in ((-1, 0, "v20"), (1, 0, "v20"), (0, -1, "h20"), (0, 1, "h20")):
             if (x + dx, y + dy, z) not in there:
-                parts.append('<path d="M%d %d%s" stroke="#111" stroke-width="1.4" stroke-linecap="square"/>' % (20 * (x + (dx > 0)), 20 * (y + (dy > 0)), line))
+                parts.append(f'<path d="M{20 * (x + (dx > 0))} {20 * (y + (dy > 0))}{line}" stroke="#111" stroke-width="1.4" stroke-linecap="square"/>')
         if name or (x, y, z) in spare:
             ink = "#fff" if is_dark(fill) else "#111"
-            parts.append('<text x="%d" y="%d" fill="%s">%s</text>' % (20 * x + 10, 20 * y + 10, ink, html.escape(name) or "+"))
-    return '<svg width="%.1fmm" height="%.1fmm" viewBox="-1 -1 %d %d" role="img">%s</svg>' % (
-        unit * (wide + 0.1), unit * (high + 0.1), 20 * wide + 2, 20 * high + 2, "".join(parts))
+            parts.append(f'<text x="{20 * x + 10}" y="{20 * y + 10}" fill="{ink}">{html.escape(name) or "+"}</text>')
+    size = f'width="{unit * (wide + 0.1):.1f}mm" height="{unit * (high + 0.1):.1f}mm"'
+    return f'<svg {size} viewBox="-1 -1 {20 * wide + 2} {20 * high + 2}" role="img">{"".join(parts)}</svg>'
 
 
 def figure(drawing, words):
-    return "<figure>%s<figcaption>%s</figcaption></figure>" % (drawing, html.escape(words))
+    return f"<figure>{drawing}<figcaption>{html.escape(words)}</figcaption></figure>"
 
 
 def solid_of(cells, name, colour):
     """A piece as it is seen from in front and above."""
     parts, wide, high, _ = drawn_faces(assembled({place: name for place in cells}), {name: colour}, 2, 2)
-    return '<svg width="%d" height="%d" role="img">%s</svg>' % (wide + 4, high + 4, "".join(parts))
+    return f'<svg width="{wide + 4}" height="{high + 4}" role="img">{"".join(parts)}</svg>'
 
 
 def layers_of(cells):
@@ -76,7 +77,7 @@ def board(puzzle, unit):
     for number, cells in enumerate(layers_of(region)):
         if cells:
             drawing = squares(cells, unit, "", "#ffffff", {(x, y, 0) for x, y, z in spare if z == number})
-            yield figure(drawing, "layer z = %d" % number if size_of(region)[2] > 1 else "")
+            yield figure(drawing, f"layer z = {number}" if size_of(region)[2] > 1 else "")
 
 
 def paint(puzzle, text):
@@ -93,7 +94,7 @@ def pieces_told(puzzle, paints, unit):
         if size_of(cells)[2] == 1:
             yield figure(squares(cells, unit, piece.name, paints[piece.name]), told)
         else:
-            yield figure(solid_of(cells, piece.name, paints[piece.name]), "%s, %s" % (told, so_many(len(cells))))
+            yield figure(solid_of(cells, piece.name, paints[piece.name]), f"{told}, {so_many(len(cells))}")
 
 
 def sheet(text, title):
@@ -102,9 +103,9 @@ def sheet(text, title):
     longest = max(size_of(moved(cells))[0] for cells in [puzzle.region, *(flat(piece.cells) for piece in puzzle.pieces)])
     unit, paints = min(CELL, WIDE / (longest + 0.1)), paint(puzzle, text)
     are_flat = all(size_of(moved(flat(piece.cells)))[2] == 1 for piece in puzzle.pieces)
-    body = ["<p>%d pieces of %s, and a region of %d.</p>" % (len(puzzle.pieces), so_many(sum(len(piece.cells) for piece in puzzle.pieces)), len(puzzle.region)),
+    body = [f"<p>{len(puzzle.pieces)} pieces of {so_many(sum(len(piece.cells) for piece in puzzle.pieces))}, and a region of {len(puzzle.region)}.</p>",
         "<h2>The board</h2><div class=many>", *board(puzzle, unit), "</div>",
-        "<h2>%s</h2><div class=many>" % ("The pieces, to cut out" if are_flat else "The pieces: flat ones to cut out, the others to build of cubes"),
+        f"<h2>{'The pieces, to cut out' if are_flat else 'The pieces: flat ones to cut out, the others to build of cubes'}</h2><div class=many>",
         *pieces_told(puzzle, paints, unit), "</div>"]
     return page(title, body)
 
@@ -120,12 +121,12 @@ def booklet(text, title, lines, most):
             found.append((told.number, told.cells()))
     names -= {".", "_"}
     paints = paint(puzzle, text)
-    body = ["<p>%d pieces, and a region of %s. Here are %d of %s packings%s.</p>" % (
-        len(puzzle.pieces), so_many(len(puzzle.region)), len(found), "at least %d" % solved.count if solved.is_first else solved.count,
-        ", one of each class" if solved.group else ""),
+    many = f"at least {solved.count}" if solved.is_first else solved.count
+    each = ", one of each class" if solved.group else ""
+    body = [f"<p>{len(puzzle.pieces)} pieces, and a region of {so_many(len(puzzle.region))}. Here are {len(found)} of {many} packings{each}.</p>",
         "<h2>The pieces</h2><div class=many>"]
     body += [figure(solid_of(moved(flat(piece.cells)), piece.name, paints[piece.name]), piece.name) for piece in puzzle.pieces] + ["</div>"]
     pictures = [functools.partial(picture, number, marks, colours(marks, names, own)) for number, marks in found]
     size = COLUMNS * ROWS
-    body += ["<div class=page>%s</div>" % page_of(pictures[at : at + size], COLUMNS) for at in range(0, len(pictures), size)]
+    body += [f"<div class=page>{page_of(pictures[at : at + size], COLUMNS)}</div>" for at in range(0, len(pictures), size)]
     return page(title, body)

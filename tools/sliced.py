@@ -40,7 +40,7 @@ class Sliced:
         text = ask(["resume", *["--list"] * is_listed, "--steps", str(most)], self.snapshot.text, self.launch)
         answer = answer_of(text, "what `polylab resume` printed")
         if answer.steps > most or (answer.rest is not None and answer.steps != most):
-            stop("a slice has %d steps, and was to have %d" % (answer.steps, most))
+            stop(f"a slice has {answer.steps} steps, and was to have {most}")
         if answer.rest is not None:
             rest = snapshot_of(answer.rest, "what `polylab resume` printed last")
             if (rest.problem, rest.lo, rest.hi) != (self.snapshot.problem, self.snapshot.lo, self.snapshot.hi):

@@ -25,7 +25,7 @@ def ready():
     found = program()
     if found == os.path.join(TOP, "polylab"):
         if subprocess.run([found, "--version"], stdin=subprocess.DEVNULL, stdout=subprocess.DEVNULL, check=False).returncode:
-            stop("%s doesn't start" % found)
+            stop(f"{found} doesn't start")
     return found
 
 
@@ -56,7 +56,7 @@ def asked(words, text, launch=launched):
         if ran.returncode:
             said.seek(0)
             why = said.read().decode("latin-1").strip()
-            stop("`polylab %s` ended with status %d%s" % (" ".join(words), ran.returncode, ": " + why if why else ""))
+            stop(f"`polylab {' '.join(words)}` ended with status {ran.returncode}{(': ' + why if why else '')}")
 
 
 def ask(words, text, launch=launched):
@@ -79,7 +79,7 @@ def checksum(text):
 def number(word):
     """The number that a word spells as the program does."""
     if not NUMBER.fullmatch(word):
-        raise Spoilt("`%s` is no number" % word[:40])
+        raise Spoilt(f"`{word[:40]}` is no number")
     return int(word)
 
 
@@ -121,7 +121,7 @@ class Snapshot:
             raise Spoilt("it is cut short")
         words = lines[self.at].split(" ")
         if words[0] != first:
-            raise Spoilt("its line %d is no line `%s`" % (self.at + 1, first))
+            raise Spoilt(f"its line {self.at + 1} is no line `{first}`")
         self.at += 1
         return words[1:]
 
@@ -163,7 +163,7 @@ class Answer:
             raise Spoilt("its lines aren't `visits`, `steps` and `levels`")
         self.visits, self.steps, self.levels = number(rows[0][1]), number(rows[1][1]), numbers(rows[2][1:])
         if listed not in (0, self.visits):
-            raise Spoilt("it lists %d visits, and counts %d" % (listed, self.visits))
+            raise Spoilt(f"it lists {listed} visits, and counts {self.visits}")
         rest = lines[listed + 3 :]
         self.part = None
         if rest[0] == "end" and len(rest) == 2:
@@ -199,8 +199,8 @@ class Sums:
 
     def lines(self, job, options):
         """The lines of `count`, or those of `cover` without its visits."""
-        first = ["packings %d" % self.visits, "options %d" % options] if job == "count" else ["visits %d" % self.visits]
-        return [*first, "steps %d" % self.steps, " ".join(["levels", *map(str, self.levels)])]
+        first = [f"packings {self.visits}", f"options {options}"] if job == "count" else [f"visits {self.visits}"]
+        return [*first, f"steps {self.steps}", " ".join(["levels", *map(str, self.levels)])]
 
 
 def snapshot_of(text, what):
@@ -208,7 +208,7 @@ def snapshot_of(text, what):
     try:
         return Snapshot(text)
     except Spoilt as spoilt:
-        return stop("%s is no snapshot: %s" % (what, spoilt))
+        return stop(f"{what} is no snapshot: {spoilt}")
 
 
 def answer_of(text, what):
@@ -216,7 +216,7 @@ def answer_of(text, what):
     try:
         return Answer(text)
     except Spoilt as spoilt:
-        return stop("%s is no answer: %s" % (what, spoilt))
+        return stop(f"{what} is no answer: {spoilt}")
 
 
 def saved(replies):
@@ -226,4 +226,4 @@ def saved(replies):
         words = line.split()
         if len(words) == 2 and words[0] == "snapshot" and NUMBER.fullmatch(words[1]):
             return "".join(itertools.islice(replies, int(words[1])))
-    return stop("the debugger saved nothing: %s" % line.rstrip("\n"))
+    return stop("the debugger saved nothing: " + line.rstrip("\n"))

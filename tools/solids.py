@@ -132,17 +132,17 @@ def normal(one, two, three):
 
 def words(numbers):
     """Numbers as they are written, without a sign before a zero."""
-    return " ".join("%.9g" % (round(it, 9) + 0.0) for it in numbers)
+    return " ".join(f"{round(it, 9) + 0.0:.9g}" for it in numbers)
 
 
 def stl(name, surface):
     """A solid of triangles, whose corners turn to the left seen from outside."""
-    lines = ["solid %s" % name]
+    lines = [f"solid {name}"]
     for corners in surface.polygons():
         for at in range(1, len(corners) - 1):
             three = [corners[0], *corners[at : at + 2]]
             lines += ["facet normal " + words(normal(*three)), "outer loop", *("vertex " + words(corner) for corner in three), "endloop", "endfacet"]
-    return "".join(line + "\n" for line in [*lines, "endsolid %s" % name])
+    return "".join(line + "\n" for line in [*lines, f"endsolid {name}"])
 
 
 def obj(name, surface):
@@ -150,4 +150,4 @@ def obj(name, surface):
     numbers, faces = {}, []
     for corners in surface.polygons():
         faces.append("f " + " ".join(str(numbers.setdefault(words(corner), len(numbers) + 1)) for corner in corners))
-    return "".join(line + "\n" for line in ["o %s" % name, *("v " + corner for corner in numbers), *faces])
+    return "".join(line + "\n" for line in [f"o {name}", *("v " + corner for corner in numbers), *faces])

@@ -27,9 +27,10 @@ def policy_of(text):
     """What a page that was made may do: run its own script, and nothing else."""
     found = {}
     for kind in ("script", "style"):
-        parts = re.findall(r"<%s>(.*?)</%s>" % (kind, kind), text, re.S)
-        found[kind] = " ".join("'sha256-%s'" % base64.b64encode(hashlib.sha256(it.encode()).digest()).decode() for it in parts) or "'none'"
-    return "default-src 'none'; script-src %(script)s; style-src %(style)s; img-src data: blob:; base-uri 'none'; form-action 'none'; frame-ancestors 'self'" % found
+        parts = re.findall(fr"<{kind}>(.*?)</{kind}>", text, re.S)
+        found[kind] = " ".join(f"'sha256-{base64.b64encode(hashlib.sha256(it.encode()).digest()).decode()}'" for it in parts) or "'none'"
+    own = f"script-src {found['script']}; style-src {found['style']}"
+    return f"default-src 'none'; {own}; img-src data: blob:; base-uri 'none'; form-action 'none'; frame-ancestors 'self'"
 
 
 class Desk:
@@ -123,7 +124,7 @@ class Desk:
         with zipfile.ZipFile(packed, "w", zipfile.ZIP_DEFLATED) as file:
             for piece in Puzzle(bytes_of(text_of(asked)), []).pieces:
                 if piece.cells:
-                    file.writestr("piece-%s.%s" % (piece.name, end), make(piece.name, Surface(flat(piece.cells), edge, gap, bevel)))
+                    file.writestr(f"piece-{piece.name}.{end}", make(piece.name, Surface(flat(piece.cells), edge, gap, bevel)))
         return packed.getvalue(), "application/zip"
 
     def do_json(self, _):

@@ -99,9 +99,9 @@ def headline(puzzle, volumes):
     if not puzzle.pieces or not puzzle.region:
         return "", ""
     if volumes.sure > volumes.region:
-        return "%s too many" % so_many(volumes.sure - volumes.region), "bad"
+        return f"{so_many(volumes.sure - volumes.region)} too many", "bad"
     if volumes.most < volumes.least and not volumes.any_names:
-        return "%s too few" % so_many(volumes.least - volumes.most), "bad"
+        return f"{so_many(volumes.least - volumes.most)} too few", "bad"
     if volumes.misfits():
         return volumes.misfits()[0], "bad"
     if volumes.sure == volumes.most == volumes.region and not volumes.any_names:
@@ -114,9 +114,9 @@ def reasons(puzzle, measure):
     why, notes = [], []
     for piece in puzzle.pieces if puzzle.region else ():
         if not measure.counts[piece.name]:
-            (notes if piece.need else why).append("piece %s has no place in the region" % piece.name)
+            (notes if piece.need else why).append(f"piece {piece.name} has no place in the region")
     if puzzle.pieces and measure.bare:
-        why.append("no piece reaches %s" % some([word(place) for place in measure.bare]))
+        why.append(f"no piece reaches {some([word(place) for place in measure.bare])}")
     return why, [*notes, *notes_on_pieces(puzzle), *notes_on_region(puzzle)]
 
 
@@ -128,8 +128,7 @@ def numbers_told(puzzle):
     colours = parity(puzzle) if puzzle.region else None
     dark = sum(sum(place) & 1 for place in puzzle.region)
     if state == "good" and colours and not colours[1]:
-        why.append("coloured like a chessboard the region has %d and %d cells, and no way to lay these pieces makes that difference" % (
-            len(puzzle.region) - dark, dark))
+        why.append(f"coloured like a chessboard the region has {len(puzzle.region) - dark} and {dark} cells, and no way to lay these pieces makes that difference")
     return {
         "pieces": [volumes.sure, volumes.most], "any": volumes.any_names, "region": [volumes.least, volumes.region], "headline": said,
         "state": "bad" if why and state else state, "why": why, "notes": notes, "ways": measure.counts, "options": measure.options,

@@ -13,7 +13,7 @@ from snapshots import itself, ready
 
 TOOLS = os.path.dirname(os.path.realpath(__file__))
 # The bound is set by a shell, which is then what it bounds; where setpriv is here, the process ends with whoever began it, also where that is killed.
-BOUND = 'ulimit -S -v "$1"; shift; exec %s"$@"' % ("setpriv --pdeathsig KILL " if shutil.which("setpriv") else "")
+BOUND = f'ulimit -S -v "$1"; shift; exec {"setpriv --pdeathsig KILL " if shutil.which("setpriv") else ""}"$@"'
 # A script that is called works for so many seconds at most.
 PATIENCE = 300
 
@@ -51,7 +51,7 @@ class Runs:
                 file.write(puzzle.encode("latin-1"))
                 file.seek(0)
                 passed = (file.fileno(),)
-                words = ["/dev/fd/%d" % passed[0] if it == "{puzzle}" else it for it in words]
+                words = [f"/dev/fd/{passed[0]}" if it == "{puzzle}" else it for it in words]
             child = self.start([os.path.join(TOOLS, name), *words], stdin=given, stdout=out, stderr=said, pass_fds=passed)
             if begun:
                 begun(child)
@@ -59,7 +59,7 @@ class Runs:
             said.seek(0)
             told = said.read().decode("utf-8", "replace").strip()
             if child.returncode:
-                stop(sentence(told) or "%s ended with status %d" % (name, child.returncode))
+                stop(sentence(told) or f"{name} ended with status {child.returncode}")
         out.seek(0)
         return out, told
 
@@ -69,7 +69,7 @@ class Runs:
             child.wait(PATIENCE)
         except subprocess.TimeoutExpired:
             self.kill(child)
-            stop("%s was at work for %d seconds, and was ended" % (name, PATIENCE))
+            stop(f"{name} was at work for {PATIENCE} seconds, and was ended")
 
     def kill(self, child):
         """Ends a process with all that it began."""
@@ -95,5 +95,5 @@ def version():
     told = subprocess.run([ready(), "--version"], stdin=subprocess.DEVNULL, stdout=subprocess.PIPE, check=False)
     lines = told.stdout.decode("latin-1").split("\n")
     if told.returncode or not lines[0].startswith("polylab "):
-        stop("the program doesn't start: it ended with status %d" % told.returncode)
+        stop(f"the program doesn't start: it ended with status {told.returncode}")
     return lines[0].partition(" ")[2], next((line.partition(" ")[2] for line in lines if line.startswith("revision ")), "unknown")

@@ -37,7 +37,7 @@ class Found:
         for line in visits:
             if self.draws is None:
                 self.draws = Drawing(self.text, problem, self.is_smaller)
-            rows = ["packing %d" % (self.many + 1), *self.draws.rows(numbers(line.split()[1:]))]
+            rows = [f"packing {self.many + 1}", *self.draws.rows(numbers(line.split()[1:]))]
             with self.lock:
                 self.file.write("".join(row + "\n" for row in rows).encode("latin-1"))
                 self.many += 1
@@ -52,7 +52,7 @@ class Found:
             self.file.flush()
             many, left = self.many, self.file.tell()
         taken = many if most is None else min(many, most)
-        with open("/proc/self/fd/%d" % self.file.fileno(), "rb") as file:
+        with open(f"/proc/self/fd/{self.file.fileno()}", "rb") as file:
             for line in iter(file.readline, b""):
                 left -= len(line)
                 if left < 0 or line == b"packing %d\n" % (taken + 1):
@@ -152,20 +152,20 @@ class Search:
                 if self.is_stopping:
                     stop("stopped")
                 if time.monotonic() > self.until and not self.is_over:
-                    self.tell(state="paused", said="The search took %d minutes, and waits: go on, or leave it." % self.minutes)
+                    self.tell(state="paused", said=f"The search took {self.minutes} minutes, and waits: go on, or leave it.")
                     return
             self.end()
         except Stop as why:
             self.ended(str(why))
         except (OSError, MemoryError, ValueError, LookupError) as why:
-            self.ended("the search can't go on: %s" % why)
+            self.ended(f"the search can't go on: {why}")
 
     def ended(self, why):
         """The search came to no end: it was stopped, or something failed."""
         if self.is_stopping:
             self.tell(state="paused" if self.sliced else "idle", said="The search was stopped.")
         elif "with status 4" in why or "not enough memory" in why:
-            self.tell(state="failed", said="The search ran out of memory: here it may take %d MB (--memory)." % self.runs.memory)
+            self.tell(state="failed", said=f"The search ran out of memory: here it may take {self.runs.memory} MB (--memory).")
         elif "with status -" in why:
             self.tell(state="failed", said="The program was ended from outside, and the search with it.")
         else:
@@ -188,9 +188,9 @@ class Search:
         said, sums = "", self.sliced.sums
         is_end = self.now["share"] == 1.0
         if is_end and not sums.fit():
-            stop("the sums are no whole run's: %d steps don't fit the visits and levels" % sums.steps)
+            stop(f"the sums are no whole run's: {sums.steps} steps don't fit the visits and levels")
         if not is_end and self.kind != "first":
-            said = "%d packings are kept, and no more; Count tells how many there are." % KEPT
+            said = f"{KEPT} packings are kept, and no more; Count tells how many there are."
         lines = sums.lines("count", self.sliced.snapshot.options) if is_end else []
         if self.smaller and is_end:
             lines = self.classes(sums)

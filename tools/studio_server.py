@@ -23,7 +23,7 @@ from frame import Stop
 HERE = os.path.dirname(os.path.realpath(__file__))
 HOST, PORT, PORTS = "127.0.0.1", 8479, 20
 # Where a link to a puzzle leads.
-LINK = "http://%s:%d/" % (HOST, PORT)
+LINK = f"http://{HOST}:{PORT}/"
 # What a request may bring: bytes of JSON, and of a file that is opened.
 TEXT, FILE = 1 << 20, 1 << 24
 # So many requests are answered at once, and so many seconds a request may take to come.
@@ -64,7 +64,7 @@ class Server(ThreadingHTTPServer):
             except OSError:
                 if it == (0 if port is None else port):
                     raise
-        self.host = "%s:%d" % (HOST, self.server_port)
+        self.host = f"{HOST}:{self.server_port}"
         self.origin = "http://" + self.host
 
     def server_bind(self):
@@ -142,12 +142,12 @@ class Handler(BaseHTTPRequestHandler):
             self.close_connection = True
         except (OSError, ValueError, LookupError, TypeError, AttributeError, MemoryError) as why:
             self.close_connection = True
-            self.send(json.dumps({"said": "this failed in the studio: %s %s" % (type(why).__name__, why)}).encode(), "application/json", 500)
+            self.send(json.dumps({"said": f"this failed in the studio: {type(why).__name__} {why}"}).encode(), "application/json", 500)
 
     def check(self):
         """A request has to be for this server, by its own page or by somebody who typed its address; a link alone may lead from elsewhere to `/`."""
         if self.headers.get("Host") != self.server.host:
-            raise Refused(403, "this server is %s, and answers to no other name" % self.server.host)
+            raise Refused(403, f"this server is {self.server.host}, and answers to no other name")
         origin, site = self.headers.get("Origin"), self.headers.get("Sec-Fetch-Site")
         if origin is None and self.command == "POST" or origin not in (None, self.server.origin):
             raise Refused(403, "this server answers to its own pages alone")
@@ -168,7 +168,7 @@ class Handler(BaseHTTPRequestHandler):
             self.file(OPEN[path[1:]])
             return
         if path.startswith("/open/") and self.server.used(path.removeprefix("/open/")):
-            self.send(b"", "text/plain", 303, moves={"Location": "/%s/" % self.server.secret})
+            self.send(b"", "text/plain", 303, moves={"Location": f"/{self.server.secret}/"})
             return
         name = self.below(path)
         if name == "":
@@ -203,7 +203,7 @@ class Handler(BaseHTTPRequestHandler):
         if not (long.isascii() and long.isdecimal()) or self.headers.get("Transfer-Encoding"):
             raise Refused(411, "a request has to say how long it is")
         if len(long) > 12 or int(long) > most:
-            raise Refused(413, "this is larger than %d MB, and no puzzle is" % (most >> 20))
+            raise Refused(413, f"this is larger than {most >> 20} MB, and no puzzle is")
         data = self.rfile.read(int(long))
         if len(data) != int(long):
             raise Refused(400, "the request was cut short")
@@ -219,7 +219,7 @@ class Handler(BaseHTTPRequestHandler):
                 asked = json.loads(self.body(TEXT))
                 found = self.server.desk.acts[name](asked)
             except (ValueError, LookupError, TypeError, RecursionError) as why:
-                raise Refused(400, "this can't be asked for (%s)" % type(why).__name__) from why
+                raise Refused(400, f"this can't be asked for ({type(why).__name__})") from why
         else:
             raise Refused(404, "this can't be asked for")
         if isinstance(found, tuple):

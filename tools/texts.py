@@ -29,7 +29,7 @@ class Fault(Stop):
     is about, counted from 0, or None."""
 
     def __init__(self, line, name, what, columns=None):
-        super().__init__("the text is refused at line %d: %s: %s" % (line, name, what))
+        super().__init__(f"the text is refused at line {line}: {name}: {what}")
         self.line, self.name, self.what, self.columns = line, name, what, columns
 
 
@@ -68,7 +68,7 @@ class Reader:
         if column is None:
             return line
         name, long = mark_named(line, column)
-        fault = Fault(self.number, "BadLine", "%s may stand in a comment only" % name, (column, column + long))
+        fault = Fault(self.number, "BadLine", f"{name} may stand in a comment only", (column, column + long))
         if self.faults is None or long == 1 or "UTF-16" in name:
             raise fault
         self.faults.append(fault)
@@ -86,5 +86,5 @@ def mark_named(line, column):
         with contextlib.suppress(UnicodeDecodeError):
             mark = rest[:long].decode("utf-8")
             if len(mark) == 1 and ord(mark) > 127:
-                return "the character U+%04X, %s," % (ord(mark), unicodedata.name(mark, "which has no name")), long
-    return "the byte %02x" % rest[0], 1
+                return f"the character U+{ord(mark):04X}, {unicodedata.name(mark, 'which has no name')},", long
+    return f"the byte {rest[0]:02x}", 1

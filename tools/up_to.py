@@ -14,7 +14,7 @@ ANCHOR, EACH, ALONE = "# anchor ", "# packings for each cover ", "# no two cover
 def group_of(word):
     """Reads the word of --up-to."""
     if word not in GROUPS:
-        raise ValueError("%s has to stand here" % " or ".join(GROUPS))
+        raise ValueError(f"{' or '.join(GROUPS)} has to stand here")
     return word
 
 
@@ -38,8 +38,8 @@ class Meaning:
     def lines(self, sums, options):
         """The lines of `count --up-to`. If visits aren't classes their number has the place of the classes, and if the packings aren't known they are left
         out."""
-        first = ["packings %d" % (self.each * sums.visits)] if self.each else []
-        first.append("%s %d" % (self.group if self.are_classes else "visits", sums.visits))
+        first = [f"packings {self.each * sums.visits}"] if self.each else []
+        first.append(f"{self.group if self.are_classes else 'visits'} {sums.visits}")
         return [*first, *sums.lines("count", options)[1:]]
 
 

@@ -13,7 +13,7 @@ SHOWN = 12
 
 def some(names):
     """The first of some names, and how many more there are."""
-    return " ".join(names[:SHOWN]) + (" and %d more" % (len(names) - SHOWN) if len(names) > SHOWN else "")
+    return " ".join(names[:SHOWN]) + (f" and {len(names) - SHOWN} more" if len(names) > SHOWN else "")
 
 
 class Volumes:
@@ -40,11 +40,11 @@ class Volumes:
         """What shows that nothing fits."""
         why = []
         if self.sure > self.region:
-            why.append("the pieces have %s too many" % so_many(self.sure - self.region))
+            why.append(f"the pieces have {so_many(self.sure - self.region)} too many")
         if self.most < self.least and not self.any_names:
-            why.append("the pieces have %s too few" % so_many(self.least - self.most))
+            why.append(f"the pieces have {so_many(self.least - self.most)} too few")
         if self.left() is not None and self.left() % self.any_size:
-            why.append("the number of cells that the other pieces leave, %d, is no multiple of the %d of %s" % (self.left(), self.any_size, self.any_names[0]))
+            why.append(f"the number of cells that the other pieces leave, {self.left()}, is no multiple of the {self.any_size} of {self.any_names[0]}")
         return why
 
 
@@ -110,7 +110,7 @@ def notes_on_pieces(puzzle):
         many = parts(cells)
         if len(many) > 1 and name not in later:
             shown = ", ".join(some([word(place) for place in part]) for part in many[:4])
-            yield "piece %s is in %d parts that don't touch: %s" % (name, len(many), shown)
+            yield f"piece {name} is in {len(many)} parts that don't touch: {shown}"
         if need != "any":
             shapes.setdefault(frozenset(turned(cells, mirror)), []).append(name)
     for names in shapes.values():
@@ -119,15 +119,15 @@ def notes_on_pieces(puzzle):
             times //= math.factorial(len(set(equal) & set(names)))
         if times > 1:
             yield (
-                "pieces %s have one shape: a packing counts again where they change places, %d times where all of them are laid; one line `copies`"
-                " counts it once" % (" ".join(names), times)
+                f"pieces {' '.join(names)} have one shape: a packing counts again where they change places, {times} times where all of them are laid; one line `copies`"
+                " counts it once"
             )
     full = sum(len(piece.cells) for piece in puzzle.pieces) == len(puzzle.region) and not puzzle.optional
     largest = max(puzzle.equal, key=len, default="")
     if len(largest) > 6 and full and not any(piece.need for piece in puzzle.pieces):
         yield (
-            "the volume forces the number of the %d equal pieces %s: a line `any piece %s` in their place has the same packings, drawn alike, and"
-            " they are found much sooner" % (len(largest), largest, largest)
+            f"the volume forces the number of the {len(largest)} equal pieces {largest}: a line `any piece {largest}` in their place has the same packings, drawn alike, and"
+            " they are found much sooner"
         )
 
 
@@ -137,17 +137,17 @@ def notes_on_region(puzzle):
         if kind == "cut":
             bare = [word(place) for place in places if place not in puzzle.filled and place not in puzzle.spare]
             if bare:
-                yield "line %d: `cut` takes nothing away at %s, which no line names" % (number, some(bare))
+                yield f"line {number}: `cut` takes nothing away at {some(bare)}, which no line names"
         else:
             gone = [word(place) for place in places if place in puzzle.cut]
             if kind == "maybe" and gone:
-                yield "line %d: `maybe cells` says nothing of %s, which a line `cut` takes away" % (number, some(gone))
+                yield f"line {number}: `maybe cells` says nothing of {some(gone)}, which a line `cut` takes away"
             elif kind == "cells" and gone:
-                yield "line %d: `cells` adds nothing at %s, which a line `cut` takes away" % (number, some(gone))
+                yield f"line {number}: `cells` adds nothing at {some(gone)}, which a line `cut` takes away"
         if kind == "maybe":
             new = [word(place) for place in places if place not in puzzle.filled and place not in puzzle.cut]
             if new and puzzle.filled:
-                yield "line %d: `maybe cells` adds %s, which no line `box` or `cells` names" % (number, some(new))
+                yield f"line {number}: `maybe cells` adds {some(new)}, which no line `box` or `cells` names"
 
 
 class Measure:
@@ -178,7 +178,7 @@ class Measure:
     def too_large(self):
         """Why the program refuses such a puzzle as too large, or None."""
         if self.items > ITEMS:
-            return "%d items, most of them nodes that keep equal pieces in order, where the program takes %d" % (self.items, ITEMS)
+            return f"{self.items} items, most of them nodes that keep equal pieces in order, where the program takes {ITEMS}"
         if self.options > OPTIONS or self.table > TABLE:
-            return "%d ways where the program takes %d, and a table of %d where it takes %d" % (self.options, OPTIONS, self.table, TABLE)
+            return f"{self.options} ways where the program takes {OPTIONS}, and a table of {self.table} where it takes {TABLE}"
         return None

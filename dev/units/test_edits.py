@@ -1,0 +1,65 @@
+"""Tests of dev/parts/edits.py: the law that an edit names by a line `refuted:`. NOT PROVED."""
+
+import os
+import pathlib
+import tempfile
+import unittest
+
+from edits import read_edit
+
+LAWS = """//! Laws.
+
+/// No list is lost.
+pub fn none_is_lost()
+    ensures { (n : ℕ) → IsLost n → ⊥ }
+{}
+
+/// Each list is kept.
+pub fn all_are_kept()
+    ensures { (n : ℕ) → IsKept n }
+{}
+
+/// What does something is no law.
+pub fn lose(count: u32) -> bool
+    ensures { IsLost count → ⊥ }
+{
+    false
+}
+
+/// Nor is what stands before one.
+pub fn keep(count: u32) -> bool {
+    true
+}
+
+/// The last one.
+pub fn none_is_old()
+    ensures old { IsOld 1 → ⊥ }
+    ensures new { ¬ IsNew 1 }
+{}
+"""
+EDIT = "file: src/laws.rt\nold:     false\nnew:     true\n"
+
+
+class Refuted(unittest.TestCase):
+    def read(self, text):
+        with tempfile.TemporaryDirectory() as crate:
+            for folder in ("src", "wrong-bodies"):
+                os.mkdir(os.path.join(crate, folder))
+            pathlib.Path(crate, "src", "laws.rt").write_text(LAWS, encoding="utf-8")
+            file = pathlib.Path(crate, "wrong-bodies", "loses.edit")
+            file.write_text(text, encoding="utf-8")
+            return read_edit(file)
+
+    def test_no_law_is_named(self):
+        edit = self.read(EDIT)
+        self.assertEqual((edit.fault, edit.denied, len(edit.changes)), ("", "", 1))
+
+    def test_what_a_law_denies(self):
+        for text in (f"refuted: laws::none_is_lost\n{EDIT}", f"{EDIT}refuted: laws::none_is_lost\n"):
+            edit = self.read(text)
+            self.assertEqual((edit.fault, edit.denied.strip(), len(edit.changes)), ("", "(n : ℕ) → IsLost n → ⊥", 1))
+        self.assertEqual(self.read(f"refuted: laws::none_is_old\n{EDIT}").denied.split("\n"), [" IsOld 1 → ⊥ ", " ¬ IsNew 1 "])
+
+    def test_what_is_no_law_is_a_fault(self):
+        for name in ("laws::all_are_kept", "laws::lose", "laws::keep", "laws::none", "laws", "none_is_lost", "other::none_is_lost"):
+            self.assertEqual(self.read(f"refuted: {name}\n{EDIT}").fault, f"there is no law {name} that denies something")

@@ -1,5 +1,5 @@
 //! Tests of `lab_book` and `lab_world` where memory is refused: a refused call leaves a book or a world as it was, and is answered the
-//! second time as where nothing is refused. `dev/check_memory` runs them with one growth refused, each growth in turn.
+//! second time as where nothing is refused. `dev/do check_memory` runs them with one growth refused, each growth in turn.
 #![tactic(auto)]
 
 #[cfg(test)]

@@ -1,5 +1,5 @@
 //! Problems and placements to whose making memory is refused: the same call, made again over the same puzzle or shapes, makes what it makes
-//! where nothing is refused. `dev/check_memory` runs these tests with one growth refused, each growth in turn.
+//! where nothing is refused. `dev/do check_memory` runs these tests with one growth refused, each growth in turn.
 use crate::fixtures::{Cells, box_of, shape_at};
 use poly_cells::Shape;
 use poly_place::{Compiled, PlaceFault, compile, placements};

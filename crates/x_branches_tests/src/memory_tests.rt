@@ -1,5 +1,5 @@
 //! Calls of a runner to which memory is refused: what was handed in comes back, the runner is as it was, and the same call, made again,
-//! is answered as where nothing is refused. `dev/check_memory` runs these tests with one growth refused, each growth in turn.
+//! is answered as where nothing is refused. `dev/do check_memory` runs these tests with one growth refused, each growth in turn.
 ghost use Rattle.std.specs.Prelude.{◌≡◌, []};
 
 use crate::fixtures::{branch_of, runner_of, small, whole};

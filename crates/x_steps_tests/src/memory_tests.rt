@@ -1,5 +1,5 @@
 //! Tables that cover and uncover, and machines that walk, step and go back, between the making of all that they need and one growth
-//! more. `dev/check_memory` runs these tests with one growth refused, each growth in turn: behind the last that makes something
+//! more. `dev/do check_memory` runs these tests with one growth refused, each growth in turn: behind the last that makes something
 //! comes the one at the end, so what stands between them takes none. And tables and machines whose making is refused: what was handed in
 //! is as before, and the same call, made again, makes what it makes where nothing is refused.
 ghost use Rattle.std.specs.Prelude.{◌≡◌, ◌≤◌, ◌+◌, [], length, replicate, IfSome};

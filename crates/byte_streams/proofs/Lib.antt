@@ -1,3 +1,4 @@
 mod StreamExamples
 mod Transfer
 mod Walks
+mod LawLemmas

@@ -4,6 +4,7 @@
 mod answers;
 mod asked;
 mod input;
+pub mod laws;
 mod output;
 mod stream;
 mod watched;

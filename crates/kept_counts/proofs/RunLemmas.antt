@@ -15,7 +15,7 @@ use Rattle.x_steps.specs.declared.state.Label.TheVariants.{X2, X8}
 use Rattle.x_steps.specs.declared.state.Cursor.{Cursor}
 use Rattle.x_steps.specs.declared.state.Cursor.TheVariants as cursor
 use Rattle.x_steps.specs.StateValue.{StateValue, at, start, done}
-use Rattle.x_steps.specs.Steps.{is_open, IsOpen, is_level, is_entry, is_visit, FitsAt}
+use Rattle.x_steps.specs.Steps.{is_open, IsOpen, is_level, is_entry, is_visit, FitsAt, Fits}
 use Rattle.x_steps.specs.Run.{after, states, visits, entries, level_count, steps_between, states_between, visits_between, levels}
 use Rattle.x_steps.specs.Levels.{without_last_zeros, trimmed_levels}
 use Rattle.x_steps.proofs.Neighbours.{open_cases}
@@ -209,7 +209,7 @@ module _ (p : ProblemValue) where
   split true x y z e = e
   split false x y z e = refl
 
-  levels_sum : (ss : List StateValue) (n : ℕ) → sum_by (level_count ss) (numbers n 0) ≡ sum_by (weight (within_weight n)) ss
+  pub levels_sum : (ss : List StateValue) (n : ℕ) → sum_by (level_count ss) (numbers n 0) ≡ sum_by (weight (within_weight n)) ss
   levels_sum ss zero = sym (nothing ss)
     where
       none : (s : StateValue) → weight (within_weight 0) s ≡ 0
@@ -237,13 +237,13 @@ module _ (p : ProblemValue) where
   deep_at n X2 path _ g f = absurd f
   deep_at n _ path _ g f = refl
 
-  deep : (n m : ℕ) → p.primary < n → sum_by (weight (within_weight n)) (states p m start) ≡ sum_by (weight (λ q. 1)) (states p m start)
-  deep n zero g = refl
-  deep n (suc m) g =
-      let s = after p m start in
-      sum_by_push (weight (within_weight n)) (states p m start) s
-      ∙ ap₂ (λ a b. a + b) (deep n m g) (deep_at n s.label s.path s.cursor g (after_fits p m start (start_fits p)))
-      ∙ sym (sum_by_push (weight (λ q. 1)) (states p m start) s)
+  pub deep : (n m : ℕ) (s : StateValue) → Fits p s → p.primary < n → sum_by (weight (within_weight n)) (states p m s) ≡ sum_by (weight (λ q. 1)) (states p m s)
+  deep n zero s f g = refl
+  deep n (suc m) s f g =
+      let t = after p m s in
+      sum_by_push (weight (within_weight n)) (states p m s) t
+      ∙ ap₂ (λ a b. a + b) (deep n m s f g) (deep_at n t.label t.path t.cursor g (after_fits p m s f))
+      ∙ sym (sum_by_push (weight (λ q. 1)) (states p m s) t)
 
   pub run_steps : IsProblem p → steps_between p start done + 1 + 4 * visits_below p [] ≡ 8 * sum (levels p start done)
   unfolding visits_between levels
@@ -253,6 +253,6 @@ module _ (p : ProblemValue) where
       let w = s.within in
       let a = run_length p in
       let b = entries_and_visits ss in
-      let c : sum (levels p start done) ≡ sum_by (weight (λ q. 1)) ss = sum-map (level_count ss) (numbers n 0) ∙ levels_sum ss n ∙ deep n (steps_between p start done) (omega (arith, w)) in
+      let c : sum (levels p start done) ≡ sum_by (weight (λ q. 1)) ss = sum-map (level_count ss) (numbers n 0) ∙ levels_sum ss n ∙ deep n (steps_between p start done) start (start_fits p) (omega (arith, w)) in
       let d : length (visits p ss) ≡ visits_below p [] = run_visits in
       omega (arith, a, b, c, d)

@@ -8,8 +8,10 @@ ghost use Rattle.cover_problem.specs.Table.{IsCoveredList};
 ghost use Rattle.x_steps.specs.declared.state.Label.TheVariants.{X2, X8};
 ghost use Rattle.x_steps.specs.declared.state.Cursor.TheVariants.{None};
 ghost use Rattle.x_steps.specs.StateValue.{StateValue, at, start, done};
-ghost use Rattle.x_steps.specs.Run.{level_count, levels, steps_between, states_between, visits_between};
+ghost use Rattle.x_steps.specs.Steps.{Fits};
+ghost use Rattle.x_steps.specs.Run.{ReachesIn, level_count, levels, steps_between, states_between, visits_between};
 ghost use Rattle.x_steps.specs.Levels.{without_last_zeros, trimmed_levels};
+ghost use Rattle.kept_counts.specs.Owed.{owed};
 ghost use Rattle.kept_counts.specs.Below.{tried_options, states_below, visits_below, CoverTheSame, CoverTheSameOf};
 
 /// Where the same items are covered, the same lies below.
@@ -46,4 +48,11 @@ pub fn the_run_has_what_is_counted()
         → trimmed_levels p start done ≡ without_last_zeros (map (λ k. states_below p k []) (numbers (length p.names + 1) 0)) }
     ensures steps { (p : ProblemValue) → IsProblem p
         → steps_between p start done + 1 + 4 * visits_below p [] ≡ 8 * sum (levels p start done) }
+{}
+
+/// A stretch takes eight steps for each X2 state, less four for each visit, with what is owed where it begins, and less what is owed where
+/// it ends.
+pub fn steps_follow_from_paths_and_visits()
+    ensures { (p : ProblemValue) (s t : StateValue) (n : ℕ) → IsProblem p → Fits p s → ReachesIn p s t n
+        → n + owed t + 4 * length (visits_between p s t) ≡ 8 * sum (levels p s t) + owed s }
 {}

@@ -2,14 +2,15 @@
 _polylab() {
     local word=${COMP_WORDS[COMP_CWORD]}
     # (of dev/jobs.txt, by dev/do jobs)
-    local jobs='solve count options cover debug resume' scripts='explain'
+    local jobs='solve count options cover debug resume join' scripts='explain'
     local -A options=(
         [solve]='--workers --first --table --up-to'
         [count]='--workers --table --classes --up-to --cache'
         [options]='--up-to'
         [cover]='--workers --count --cache --first --table'
         [debug]='--cover'
-        [resume]='--table --steps --list'
+        [resume]='--table --steps --list --cache'
+        [join]='--packings'
         [explain]='--cover --up-to'
     )
     local -A values=(

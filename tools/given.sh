@@ -4,11 +4,11 @@
 # shellcheck shell=sh disable=SC2154
 
 # (of dev/jobs.txt, by dev/do jobs)
-jobs='solve count options cover debug resume'
+jobs='solve count options cover debug resume join'
 long='solve count cover'
 explained='solve count options cover'
 valued='--workers --first --table --up-to --cache --steps'
-plain='--classes --count --cover --list'
+plain='--classes --count --cover --list --packings'
 # (up to here)
 
 # Whether a word is one of these.

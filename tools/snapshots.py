@@ -42,9 +42,11 @@ def launched(words, **streams):
 
 
 def asked(words, text, launch=launched):
-    """The lines that the program writes of a text, one by one, each with its end; its refusal ends the script. A character stands for each byte."""
+    """The lines that the program writes of a text, or of texts one after the other, one by one, each with its end; its refusal ends the script. A
+    character stands for each byte."""
     with tempfile.TemporaryFile() as told, tempfile.TemporaryFile() as said:
-        told.write(text.encode("latin-1", "replace"))
+        for piece in [text] if isinstance(text, str) else text:
+            told.write(piece.encode("latin-1", "replace"))
         told.seek(0)
         with launch(words, stdin=told, stdout=subprocess.PIPE, stderr=said) as ran:
             try:
@@ -162,6 +164,7 @@ class Answer:
         if [row[:1] for row in rows] != [["visits"], ["steps"], ["levels"]] or len(rows[0]) != 2 or len(rows[1]) != 2:
             raise Spoilt("its lines aren't `visits`, `steps` and `levels`")
         self.visits, self.steps, self.levels = number(rows[0][1]), number(rows[1][1]), numbers(rows[2][1:])
+        self.counts = "".join(line + "\n" for line in lines[listed : listed + 3])
         if listed not in (0, self.visits):
             raise Spoilt(f"it lists {listed} visits, and counts {self.visits}")
         rest = lines[listed + 3 :]

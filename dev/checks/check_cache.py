@@ -4,7 +4,7 @@ NOT PROVED; it trusts nothing but that one of the two is right.
     dev/do check_cache [NUMBER OF PUZZLES [SEED]]
 
 Without a number it draws 100. Of each puzzle: `count` with a cache of 1 and of 100 megabytes, by both tables, and up to symmetry; and the same of
-its cover text by `cover --count`. Then texts with rows of forced items and of long lists, and a count that a cache of 1 megabyte doesn't hold.
+its cover text by `cover --count`, and by `resume` from some states of its search on. Then texts with rows of forced items and of long lists, and a count that a cache of 1 megabyte doesn't hold.
 POLYLAB names the program; without it the one that was built in this checkout is run. Ends with 1 at the first text of which both say different
 things, and prints it."""
 
@@ -26,6 +26,18 @@ def compare(words, text):
         for table in "links", "bits":
             if ran(*words, "--cache", cache, "--table", table, text=text) != wanted:
                 stop(f"polylab {' '.join(words)} --cache {cache} --table {table} prints something else than without a cache, of\n{text}")
+
+
+def compare_rests(text, draw):
+    """From some states of a cover text's search on `resume` has to print the same numbers with each cache as without."""
+    said = ran("debug", "--cover", text=f"{text}%%\nsave\n")
+    rest = said and said.partition("\n")[2]
+    for _ in range(4):
+        if not rest:
+            return
+        compare(["resume"], rest)
+        rest = ran("resume", "--steps", str(draw.randint(1, 40)), text=rest)
+        rest = rest and rest[rest.index("polysnap") :] if rest and "polysnap" in rest else None
 
 
 def forced(many):
@@ -51,8 +63,9 @@ def main(_, many, seed):
         compare(["count"], text)
         compare(["count", "--up-to", draw.choice(("rotations", "symmetries"))], text)
         cover = ran("options", text=text)
-        compare(["cover", "--count"], drawn_cover(draw) if cover is None else cover)
-        compare(["cover", "--count"], drawn_cover(draw))
+        for covers in drawn_cover(draw) if cover is None else cover, drawn_cover(draw):
+            compare(["cover", "--count"], covers)
+            compare_rests(covers, draw)
         done += 1
     print(f"ok {done} puzzles and their cover texts, {PASSED.total()} passed over")
     for text in forced(3), forced(2000):

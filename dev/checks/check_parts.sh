@@ -78,6 +78,19 @@ grep -q "part-0002.answer doesn't say whose answer it is" "$work/said" || fail "
 tools/join --unmarked "$work/covers" > "$work/said" || fail "join --unmarked"
 wanted "$third" | diff - "$work/said" || fail "the parts of covers don't add up"
 
+# A count that no walk reaches, in parts that are counted with a cache.
+printf 'any piece D 000 100\nbox 12 12 1\n' > "$work/board.puzzle"
+tools/parts 5 "$work/board" "$work/board.puzzle" > "$work/said"
+tools/answer --cache 200 "$work"/board/part-*.snapshot || fail "answer --cache"
+tools/join "$work/board" > "$work/said" || fail "join of counts with a cache"
+"$POLYLAB" count --cache 200 < "$work/board.puzzle" | diff - "$work/said" || fail "parts that are counted with a cache don't add up"
+for words in '--cache 0' '--cache x' '--cache='; do
+    # shellcheck disable=SC2086
+    if tools/answer $words "$work"/board/part-*.snapshot 2> "$work/said"; then fail "answer takes $words"; fi
+    grep -q 'this is no number of megabytes' "$work/said" || fail "answer $words: $(cat "$work/said")"
+done
+echo "ok parts that are counted with a cache"
+
 # A search up to symmetry in parts: by rotations each visit is a class, and stands for 24 packings; by all symmetries visits are neither.
 for group in rotations symmetries; do
     tools/parts --up-to "$group" 6 "$work/$group" "examples/$first.puzzle" > "$work/said"

@@ -55,6 +55,8 @@ state X2 - 4 5 1
 end
 """
 WHOLE = SNAPSHOT % b"start"
+# That state is where the run of one part begins, with its answer.
+PARTS = WHOLE + b"from start\nto end\nstate X2 - 4 5 1\nend\nvisits 1\nsteps 14\nlevels 0 0 0 1\nend\n"
 
 # What is asked of the debugger; a % is doubled, since the snapshot that it loads is put in.
 SESSION = b"""
@@ -161,7 +163,11 @@ def jobs():
     yield Job("session", ("debug", "--cover"), small + SESSION % {b"snapshot": SNAPSHOT % b"4"}, alone)
     yield Job("resume", ("resume", "--list"), WHOLE, alone)
     yield Job("resume-steps", ("resume", "--steps", "9"), WHOLE, alone)
+    yield Job("cache-resume", ("resume", "--cache", "1"), WHOLE, alone)
     yield Job("fault-snapshot", ("resume",), WHOLE[:-1], alone, status=3)
+    yield Job("join", ("join",), PARTS, alone)
+    yield Job("join-packings", ("join", "--packings"), PARTS, alone)
+    yield Job("fault-parts", ("join",), PARTS[:-1], alone, status=3)
     yield Job("cache-count", ("count", "--cache", "1"), DOMINOES, alone)
     yield Job("cache-any", ("count", "--cache", "1"), b"any piece D 000 100\nbox 6 4 1\n", alone)
     yield Job("cache-up-to", ("count", "--up-to", "symmetries", "--cache", "1"), SCREWS, alone)

@@ -9,15 +9,16 @@ LISTED = "covers"
 RAN, CLAUSES = "run", ("run", "why")
 # The jobs that the code has.
 JOBS = {
-    "Job": ["Cover", "Puzzle", "Resume"],
+    "Job": ["Cover", "Puzzle", "Resume", "Join"],
     "CoverJob": ["List", "Count", "First", "Debug"],
     "PuzzleJob": ["Solve", "First", "Count", "Classes", "Options", "SolveUpTo", "CountUpTo", "OptionsUpTo", "Debug"],
 }
 # What a text says: the matter of the second part.
 READERS = {
-    ("Rattle.cover_problem.specs.Reading", "problem_of"),
-    ("Rattle.poly_texts.specs.Reading", "puzzle_of"),
-    ("Rattle.x_snapshot.specs.Judged", "snapshot_of"),
+    ("Rattle.cover_problem.specs.Grammar", "IsCoverText"),
+    ("Rattle.poly_texts.specs.Grammar", "IsPuzzleText"),
+    ("Rattle.x_snapshot.specs.Writer", "snapshot_text"),
+    ("Rattle.part_sums.specs.Parts", "IsJoined"),
 }
 REST = "the rest of the promise: the same bytes whoever searches, refusals, faults"
 ANY_NUMBERS = (
@@ -55,7 +56,7 @@ class Command:
     def told_jobs(self):
         """Its jobs, as the code names them."""
         inner = [f"`Job::{kind[:-3]}({kind}::{name})`" for kind, names in self.until(len(self.jobs)).items() if kind != "Job" for name in names]
-        return " or ".join(inner or ["`Job::Resume`"])
+        return " or ".join(inner or [f"`Job::{name}`" for name in self.until(len(self.jobs))["Job"]])
 
 
 COMMANDS = {
@@ -128,6 +129,16 @@ COMMANDS = {
         (
             "That slices and branches add up to the whole run are laws of their own: `slices_join`, `parts_join` (`polylab_engine/src/laws.rt`) and"
             " `runs_add_up` (`resume_laws/src/laws.rt`).",
+        ),
+    ),
+    "join": Command(
+        "whole and parts",
+        [("what `join` prints", {"Job": ["Join"]})],
+        (
+            "`polylab join` reads the snapshot of a search as a whole, and of each of its parts the rest of its snapshot and what `resume` printed"
+            " of it. It prints the sum of these answers.",
+            "It checks that the parts join: each is of the same problem and on its run, and begins where the one before it ends.",
+            "If each answer is what `resume` prints of its part, the sum is what `cover --count` prints of the whole run, or `count` of the puzzle.",
         ),
     ),
     "debug": Command(

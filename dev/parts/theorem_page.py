@@ -102,7 +102,7 @@ class Page:
             *(line for it in self.command.beside for line in (it, "")),
             f"One clause on the program's own calls, `do_alone` and `do_together`, states all of that. It stands on {definitions} definitions in {files} files, {lines}"
             " lines without comments. This page has each of these lines once: part A is the promise itself, and part B says"
-            f" which {self.command.thing} a text is. A reader who trusts the reader of texts may skip part B at first.",
+            f" which {self.command.thing} a text is. A reader who knows that text may skip part B at first.",
             "",
             *table(("Part", "Definitions", "Lines", "Files", "Types of the code"), self.sizes()),
             "A definition is counted in the part where it begins. If only a later part needs an equation or a field of it, that line is there."

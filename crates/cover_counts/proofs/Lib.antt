@@ -7,3 +7,4 @@ pub mod SearchLemmas
 pub mod LoopLemmas
 pub mod WholeLemmas
 pub mod DigitLemmas
+pub mod StretchLemmas

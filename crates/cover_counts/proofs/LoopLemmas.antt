@@ -136,19 +136,23 @@ unfolding counted_last lead_pop
 last_counted p start d front parent top l t e = (lead_pop p start d front parent l).leads
 
 -- a turn of the loop that takes up a set
-pub into_leads : (p : ProblemValue) (d e : List ℕ) (front items : List Open) (top : Open) (o : ℕ) → LeadsDown p [] front d → IsTaken p d top × (top.next ≡ Some o) → e ≡ taken p d o → items ≡ front ++ top ∷ [] → LeadsDown p [] items e
-into_leads p d e front items top o l t f i = rw (i, f) (lead_push p [] d front top o l t.0 t.1)
+pub into_leads : (p : ProblemValue) (s d e : List ℕ) (front items : List Open) (top : Open) (o : ℕ) → LeadsDown p s front d → IsTaken p d top × (top.next ≡ Some o) → e ≡ taken p d o → items ≡ front ++ top ∷ [] → LeadsDown p s items e
+into_leads p s d e front items top o l t f i = rw (i, f) (lead_push p s d front top o l t.0 t.1)
 
-pub into_less : (p : ProblemValue) (d : List ℕ) (front items : List Open) (old top new : Open) (o : ℕ) → LeadsDown p [] front d → IsTaken p d old → old.next ≡ Some o → IsTaken p d top × (top.next ≡ Some o)
-    → items ≡ front ++ top ∷ [] → weight p [] items new < weight p [] front old
-into_less p d front items old top new o l t e s i = rw i (weight_push p [] d front old top new o l e s.1 (entered_falls p d (taken p d o) o refl (taken_choice p d old o t e)))
+pub into_less : (p : ProblemValue) (s d : List ℕ) (front items : List Open) (old top new : Open) (o : ℕ) → LeadsDown p s front d → IsTaken p d old → old.next ≡ Some o → IsTaken p d top × (top.next ≡ Some o)
+    → items ≡ front ++ top ∷ [] → weight p s items new < weight p s front old
+into_less p s d front items old top new o l t e x i = rw i (weight_push p s d front old top new o l e x.1 (entered_falls p d (taken p d o) o refl (taken_choice p d old o t e)))
 
 -- a turn that closes one
-pub out_less : (p : ProblemValue) (d : List ℕ) (front items : List Open) (parent top new : Open) → LeadsDown p [] items d → items ≡ front ++ parent ∷ [] → left_of p new.next < left_of p parent.next
-    → weight p [] front new < weight p [] items top
-out_less p d front items parent top new l i f = rw i (weight_pop p [] d front parent top new (subst (λ xs. LeadsDown p [] xs d) i l) f)
+pub out_less : (p : ProblemValue) (s d : List ℕ) (front items : List Open) (parent top new : Open) → LeadsDown p s items d → items ≡ front ++ parent ∷ [] → left_of p new.next < left_of p parent.next
+    → weight p s front new < weight p s items top
+out_less p s d front items parent top new l i f = rw i (weight_pop p s d front parent top new (subst (λ xs. LeadsDown p s xs d) i l) f)
 
 -- the only set is counted
-pub whole_counted : (p : ProblemValue) (d : List ℕ) (items : List Open) (top : Open) (len : ℕ) → LeadsDown p [] items d → IsTaken p d top → top.next ≡ None → len ≡ length items → len ≡ 0 → CountsBelow p [] top.below
-whole_counted p d [] top len l t e n z = taken_all p [] top (subst (λ x. IsTaken p x top) (sym l) t) e
-whole_counted p d (x ∷ xs) top len l t e n z = absurd (omega (arith, n, z))
+pub whole_counted : (p : ProblemValue) (s d : List ℕ) (items : List Open) (top : Open) (len : ℕ) → LeadsDown p s items d → IsTaken p d top → top.next ≡ None → len ≡ length items → len ≡ 0 → CountsBelow p s top.below
+whole_counted p s d [] top len l t e n z = taken_all p s top (subst (λ x. IsTaken p x top) (sym l) t) e
+whole_counted p s d (x ∷ xs) top len l t e n z = absurd (omega (arith, n, z))
+
+pub whole_back : (p : ProblemValue) (s d : List ℕ) (items : List Open) (len : ℕ) → LeadsDown p s items d → len ≡ length items → len ≡ 0 → d ≡ s
+whole_back p s d [] len l n z = sym l
+whole_back p s d (x ∷ xs) len l n z = absurd (omega (arith, n, z))

@@ -4,4 +4,5 @@ pub mod Below
 pub mod Keys
 pub mod Kept
 pub mod Search
+pub mod Stretch
 pub mod Digits

@@ -1,4 +1,4 @@
-//! Counts of a whole run. What lies below a set of covered items is searched once, as long as it is kept.
+//! Counts of a run, or of a stretch of it. What lies below a set of covered items is searched once, as long as it is kept.
 #![tactic(auto)]
 
 mod below;
@@ -8,6 +8,7 @@ mod digits;
 mod key;
 mod natural;
 mod search;
+mod stretch;
 
-pub use counts::{Counts, count_all};
+pub use counts::{Counts, count_between};
 pub use natural::Natural;

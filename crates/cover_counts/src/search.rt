@@ -29,7 +29,7 @@ pub(crate) struct Open {
 }
 
 /// Covers the items of an option that is left for the chosen item.
-fn enter<T: Table>(table: &mut T, problem: &Problem, item: u32, option: u32)
+pub(crate) fn enter<T: Table>(table: &mut T, problem: &Problem, item: u32, option: u32)
     requires at { IsTableOf problem.now (T.problem_value table.old) (T.covered_list table.old) }
     requires item { item ≡ choice problem.now (T.covered_list table.old) }
     requires choice { IsChoice problem.now (T.covered_list table.old) option }
@@ -139,7 +139,7 @@ fn look_up<T: Table>(
 }
 
 /// Whether an item is active.
-fn has_active<T: Table>(table: &T) -> bool
+pub(crate) fn has_active<T: Table>(table: &T) -> bool
     ensures { result
         ≡ nat_lt 0 (length (active (T.problem_value table.now) (T.covered_list table.now))) }
 {
@@ -256,7 +256,7 @@ fn close<T: Table>(
     }
 }
 
-/// What lies below the empty path. Its set is taken up already.
+/// What lies below the covered items. Their set is taken up already.
 pub(crate) fn count_open<T: Table>(
     table: &mut T,
     problem: &Problem,
@@ -265,9 +265,11 @@ pub(crate) fn count_open<T: Table>(
 ) -> Result<Below, AllocError>
     requires at { IsTableOf problem.now (T.problem_value table.old) (T.covered_list table.old) }
     requires kept { AreSoundSlots problem.now cache.old.places.items }
-    requires empty { T.covered_list table.old ≡ [] }
-    requires first { IsTaken problem.now [] first }
-    ensures { IfOk result (CountsBelow problem.now []) }
+    requires first { IsTaken problem.now (T.covered_list table.old) first }
+    ensures at { OnOk result (IsTableOf problem.now (T.problem_value table.new) (T.covered_list table.new)) }
+    ensures kept { OnOk result (AreSoundSlots problem.now cache.new.places.items) }
+    ensures back { OnOk result (T.covered_list table.new ≡ T.covered_list table.old) }
+    ensures below { IfOk result (CountsBelow problem.now (T.covered_list table.old)) }
 {
     let mut parents = Vec::new(cache.alloc());
     let mut top = first;

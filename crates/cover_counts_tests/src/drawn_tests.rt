@@ -1,9 +1,8 @@
 //! Drawn problems, counted with much room, little and none, beside the plain walk.
-use crate::texts::{counted, counted_plainly};
-use cover_counts::Natural;
+use crate::texts::{counted, counted_plainly, passed_text};
 use cover_problem::{PlainTable, Problem, Table, read_cover};
 use drawn_problems::{drawn_narrow_options, text_of as problem_text};
-use std::alloc::{AllocError, Global};
+use std::alloc::Global;
 use x_steps::{Event, Label, Machine};
 
 /// What a run passes: visits and steps.
@@ -40,34 +39,13 @@ fn step_all<T: Table>(machine: &mut Machine<T>, levels: &mut [u64]) -> Passed {
     Passed { visits, steps }
 }
 
-/// A number and a space.
-fn push_number(alloc: Global, text: &mut Vec<u8>, number: u64) -> Result<(), AllocError> {
-    let digits = Natural::of(alloc, number).to_decimal(alloc)?;
-    text.extend_from_slice(&digits)?;
-    text.extend_from_slice(b" ")
-}
-
-/// The text of what a run passes, in the form of the text of counts.
-fn passed_text(alloc: Global, passed: &Passed, levels: &[u64]) -> Result<Vec<u8>, AllocError> {
-    let mut text = Vec::new(alloc);
-    push_number(alloc, &mut text, passed.visits)?;
-    push_number(alloc, &mut text, passed.steps)?;
-    // There is no empty level before the last one.
-    for level in levels {
-        if *level != 0 {
-            push_number(alloc, &mut text, *level)?;
-        }
-    }
-    Ok(text)
-}
-
 /// The counts of a machine's run, step by step.
 fn stepped<T: Table>(alloc: Global, machine: &mut Machine<T>) -> Option<Vec<u8>> {
     let Ok(mut levels) = Vec::from_elem(alloc, 0u64, 8) else {
         return None;
     };
     let passed = step_all(machine, &mut levels);
-    passed_text(alloc, &passed, &levels).ok()
+    passed_text(alloc, passed.visits, passed.steps, &levels).ok()
 }
 
 /// The same of a problem's.

@@ -6,4 +6,6 @@ mod drawn_tests;
 #[cfg(test)]
 mod number_tests;
 #[cfg(test)]
+mod stretch_tests;
+#[cfg(test)]
 mod texts;

@@ -1,8 +1,13 @@
 //! Texts of problems, and of counts.
+ghost use Rattle.std.specs.Prelude.{◌≡◌, IfSome};
+
 use cover_bits::BitTable;
-use cover_counts::{Counts, Natural, count_all};
-use cover_problem::{PlainTable, Problem, read_cover};
+use cover_counts::{Counts, Natural, count_between};
+use cover_problem::{PlainTable, Problem, Table, read_cover};
 use std::alloc::{AllocError, Global};
+use std::cmp::Ordering;
+use x_branches::run_order;
+use x_steps::{Cursor, Label, Machine, State};
 
 /// The last digit of a number.
 fn digit(number: u32) -> char {
@@ -97,20 +102,67 @@ pub fn text_of(alloc: Global, counts: &Counts) -> Result<Vec<u8>, AllocError> {
     Ok(text)
 }
 
-/// The counts of a problem, with a cache of at most `room` bytes.
-pub fn counted(alloc: Global, problem: &Problem, room: usize) -> Option<Vec<u8>> {
-    let Ok(counts) = count_all::<BitTable>(alloc, problem, room) else {
+/// A machine at a state, if the problem's search has it.
+fn machine_at<'p, T: Table>(
+    alloc: Global,
+    problem: &'p Problem,
+    state: &State,
+) -> Option<Machine<'p, T>>
+    ensures { IfSome result (λ m. m.problem ≡ problem.now) }
+{
+    let Ok(table) = T::new(alloc, problem) else {
         return None;
     };
-    text_of(alloc, &counts).ok()
+    Machine::at(alloc, problem, table, state).ok()
+}
+
+/// The counts of a stretch between two states of a search, with a cache of at most `room` bytes.
+pub fn counted_stretch<T: Table>(
+    alloc: Global,
+    problem: &Problem,
+    from: &State,
+    to: &State,
+    room: usize,
+) -> Option<Vec<u8>> {
+    let (Some(first), Some(last)) = (
+        machine_at::<T>(alloc, problem, from),
+        machine_at::<T>(alloc, problem, to),
+    ) else {
+        return None;
+    };
+    match run_order(last.state(), first.state()) {
+        Ordering::Less => None,
+        _ => match count_between::<T>(alloc, problem, first.state(), last.state(), room) {
+            Ok(counts) => text_of(alloc, &counts).ok(),
+            Err(_) => None,
+        },
+    }
+}
+
+/// A state that has no choice before it.
+fn empty_at(alloc: Global, label: Label) -> State {
+    State {
+        label,
+        path: Vec::new(alloc),
+        cursor: Cursor::None,
+    }
+}
+
+/// The counts of a problem's run, with a cache of at most `room` bytes.
+fn counted_by<T: Table>(alloc: Global, problem: &Problem, room: usize) -> Option<Vec<u8>> {
+    let first = empty_at(alloc, Label::X1);
+    let last = empty_at(alloc, Label::Done);
+    counted_stretch::<T>(alloc, problem, &first, &last, room)
+}
+
+/// The same over bit sets.
+pub fn counted(alloc: Global, problem: &Problem, room: usize) -> Option<Vec<u8>> {
+    counted_by::<BitTable>(alloc, problem, room)
 }
 
 /// The same over a plain table.
 pub fn counted_plainly(alloc: Global, problem: &Problem, room: usize) -> Option<Vec<u8>> {
-    let Ok(counts) = count_all::<PlainTable>(alloc, problem, room) else {
-        return None;
-    };
-    text_of(alloc, &counts).ok()
+    counted_by::<PlainTable>(alloc, problem, room)
 }
 
 /// The counts of a cover text.
@@ -119,4 +171,27 @@ pub fn counted_text(alloc: Global, text: &str, room: usize) -> Option<Vec<u8>> {
         Ok(problem) => counted(alloc, &problem, room),
         Err(_) => None,
     }
+}
+
+/// The text of what a walk passes, in the form of the text of counts: visits, steps, and the X2 states at each level up to the last that has
+/// one.
+pub fn passed_text(
+    alloc: Global,
+    visits: u64,
+    steps: u64,
+    levels: &[u64],
+) -> Result<Vec<u8>, AllocError> {
+    let mut counts = Counts {
+        visits: Natural::of(alloc, visits),
+        steps: Natural::of(alloc, steps),
+        levels: Vec::new(alloc),
+    };
+    let len = levels
+        .iter()
+        .rposition(|level| *level != 0)
+        .map_or(0, |last| last + 1);
+    for level in &levels[..len] {
+        counts.levels.push(Natural::of(alloc, *level))?;
+    }
+    text_of(alloc, &counts)
 }

@@ -30,3 +30,4 @@ module _ (input : List ℕ) (r : Result (Vec ℕ) NoText) where
   replies_are (jobs.Puzzle (puzzle_jobs.CountUpTo group)) kind e h = absurd (cc)
   replies_are (jobs.Puzzle (puzzle_jobs.OptionsUpTo group)) kind e h = absurd (cc)
   replies_are (jobs.Resume steps list) kind e h = absurd (cc)
+  replies_are (jobs.Join counted) kind e h = absurd (cc)

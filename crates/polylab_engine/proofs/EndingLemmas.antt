@@ -73,6 +73,7 @@ none_alone (jobs.Puzzle (puzzle_jobs.CountUpTo group)) input fault e h = h
 none_alone (jobs.Puzzle (puzzle_jobs.OptionsUpTo group)) input fault e h = h
 none_alone (jobs.Puzzle puzzle_jobs.Debug) input fault e h = absurd (cc)
 none_alone (jobs.Resume steps list) input fault e h = h
+none_alone (jobs.Join counted) input fault e h = h
 
 -- so at status 4 it tells want of memory
 pub only_memory : (job : Job) (r f f' : Stream) → takes_commands job ≡ false → TellsWant (MayOfInput (pool_faults job NoPool) r) f f' → Takes f f' no_memory

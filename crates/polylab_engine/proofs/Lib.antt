@@ -7,6 +7,7 @@ mod FirstLemmas
 pub mod ResumeLemmas
 pub mod ToldLemmas
 pub mod JoinedLemmas
+pub mod AddedLemmas
 pub mod ClassifiedLemmas
 pub mod UpToLemmas
 mod ListedLemmas

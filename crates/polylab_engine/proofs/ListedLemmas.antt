@@ -10,10 +10,11 @@ use Rattle.cover_problem.specs.Reading.{problem_of}
 use Rattle.cover_problem.proofs.TextLemmas.{read_is_text}
 use Rattle.poly_texts.specs.declared.fault.Fault as puzzle
 use Rattle.poly_texts.specs.Puzzle.{PuzzleValue, IsPuzzle}
+use Rattle.poly_texts.specs.Grammar.{IsPuzzleText}
 use Rattle.poly_texts.specs.Reading.{puzzle_of}
 use Rattle.poly_texts.proofs.TextLemmas as texts
 use Rattle.poly_texts.proofs.PuzzleLemmas.{puzzle_is}
-use Rattle.cover_problem.specs.Grammar.{written}
+use Rattle.cover_problem.specs.Grammar.{written, IsCoverText}
 use Rattle.poly_place.specs.Packings.{ChoiceValue, ArePackings, SetStandsFor, choice_at, packing_problem}
 use Rattle.poly_place.specs.Chosen.{chosen_by, is_among}
 use Rattle.poly_place.specs.declared.alike.Group.TheVariants.{Rotations, Symmetries}
@@ -26,14 +27,14 @@ use Rattle.x_steps.specs.Covers.{AreCovers}
 use Rattle.x_steps.specs.StateValue.{start, done}
 use Rattle.x_steps.specs.Run.{visits_between}
 use Rattle.x_steps.proofs.VisitLemmas.{visits_rise, visits_are_covers}
-use Rattle.x_snapshot.specs.Judged.{snapshot_of}
 use Rattle.polylab_engine.specs.declared.job.Job.{Job}
 use Rattle.polylab_engine.specs.declared.job.Job.TheVariants as jobs
 use Rattle.polylab_engine.specs.declared.job.CoverJob.TheVariants as cover_jobs
 use Rattle.polylab_engine.specs.declared.job.PuzzleJob.TheVariants as puzzle_jobs
 use Rattle.polylab_engine.specs.Account.{ReportValue, account_of}
 use Rattle.polylab_engine.specs.Output.{cover_output, cover_count_output, whole_report}
-use Rattle.polylab_engine.proofs.ToldLemmas.{resumed, snapshot_read}
+use Rattle.polylab_engine.proofs.ToldLemmas.{resumed}
+use Rattle.polylab_engine.proofs.AddedLemmas.{joined_adds}
 use Rattle.polylab_engine.specs.First.{IsFirstReport, first_cover_output, first_packings_output}
 use Rattle.polylab_engine.specs.Packed.{solve_output, count_output, options_output}
 use Rattle.polylab_engine.specs.Classified.{packings_of, classes_of, classes_output}
@@ -84,10 +85,16 @@ lists_first n p sound = record {
 }
 
 -- what is written of a problem that was read
-listed : (Listed : ProblemValue → List ℕ → Type 0) (output : ProblemValue → List ℕ) → ((p : ProblemValue) → IsProblem p → Listed p (output p)) → (read : Result ProblemValue (Fault × ℕ)) (text : List ℕ)
-    → ((p : ProblemValue) → read ≡ Ok p → IsProblem p) → covers_of output read ≡ Ok text → (p : ProblemValue) × (read ≡ Ok p) × Listed p text
-listed Listed output tells (Ok p) text sound e = let same : output p ≡ text = cc in (p, refl, subst (Listed p) same (tells p (sound p refl)))
-listed Listed output tells (Err f) text sound e = absurd (cc)
+listed : (input : List ℕ) (Listed : ProblemValue → List ℕ → Type 0) (output : ProblemValue → List ℕ) → ((p : ProblemValue) → IsProblem p → Listed p (output p)) → (text : List ℕ) → covers_of output (problem_of input) ≡ Ok text
+    → (p : ProblemValue) × IsCoverText input p × Listed p text
+listed input Listed output tells text e = by (problem_of input) refl e
+  where
+    by : (read : Result ProblemValue (Fault × ℕ)) → problem_of input ≡ read → covers_of output read ≡ Ok text → (p : ProblemValue) × IsCoverText input p × Listed p text
+    by (Ok p) r h =
+        let same : output p ≡ text = cc in
+        let is = read_is_text input p r in
+        (p, is, subst (Listed p) same (tells p is.problem))
+    by (Err f) r h = absurd (cc)
 
 -- the visits of a problem are exact covers
 visits_covers : (p : ProblemValue) → IsProblem p → AreExactCovers p (whole_report true p).visits
@@ -211,15 +218,17 @@ classified p z small =
     }
 
 -- what is written of a puzzle that was read
-packed : (Listed : PuzzleValue → List ℕ → Type 0) (output : PuzzleValue → List ℕ) → ((p : PuzzleValue) → IsPuzzle p → is_small (packing_problem p) ≡ true → Listed p (output p))
-    → (read : Result PuzzleValue (puzzle.Fault × ℕ)) (text : List ℕ) → ((p : PuzzleValue) → read ≡ Ok p → IsPuzzle p) → packed_of output read ≡ Ok text
-    → (p : PuzzleValue) × (read ≡ Ok p) × Listed p text
-packed Listed output tells (Ok p) text sound e = (p, refl, by_test (is_small (packing_problem p)) refl e)
+packed : (input : List ℕ) (Listed : PuzzleValue → List ℕ → Type 0) (output : PuzzleValue → List ℕ) → ((p : PuzzleValue) → IsPuzzle p → is_small (packing_problem p) ≡ true → Listed p (output p)) → (text : List ℕ)
+    → packed_of output (puzzle_of input) ≡ Ok text → (p : PuzzleValue) × IsPuzzleText input p × Listed p text
+packed input Listed output tells text e = by (puzzle_of input) refl e
   where
-    by_test : (b : Bool) → is_small (packing_problem p) ≡ b → cond b (Ok (output p)) (Err place_refusal) ≡ Ok text → Listed p text
-    by_test true t h = let same : output p ≡ text = cc in subst (Listed p) same (tells p (sound p refl) t)
-    by_test false t h = absurd (cc)
-packed Listed output tells (Err f) text sound e = absurd (cc)
+    by_test : (p : PuzzleValue) → IsPuzzle p → (b : Bool) → is_small (packing_problem p) ≡ b → cond b (Ok (output p)) (Err place_refusal) ≡ Ok text → Listed p text
+    by_test p z true t h = let same : output p ≡ text = cc in subst (Listed p) same (tells p z t)
+    by_test p z false t h = absurd (cc)
+
+    by : (read : Result PuzzleValue (puzzle.Fault × ℕ)) → puzzle_of input ≡ read → packed_of output read ≡ Ok text → (p : PuzzleValue) × IsPuzzleText input p × Listed p text
+    by (Ok p) r h = let is = texts.read_is_text input p r in (p, is, by_test p (puzzle_is input p is) (is_small (packing_problem p)) refl h)
+    by (Err f) r h = absurd (cc)
 
 options_are : (p : PuzzleValue) → options_output p ≡ written (packing_problem p)
 unfolding options_output
@@ -227,29 +236,24 @@ options_are p = refl
 
 -- ---- jobs
 
-problem_read : (input : List ℕ) (p : ProblemValue) → problem_of input ≡ Ok p → IsProblem p
-problem_read input p h = (read_is_text input p h).problem
-
-puzzle_read : (input : List ℕ) (p : PuzzleValue) → puzzle_of input ≡ Ok p → IsPuzzle p
-puzzle_read input p h = puzzle_is input p (texts.read_is_text input p h)
-
 pub outcome_lists : (job : Job) (input text : List ℕ) → job_outcome job input ≡ Ok text → IsListed job input text
 unfolding job_outcome
-outcome_lists (jobs.Cover cover_jobs.List) input text e = listed ListsCovers cover_output lists (problem_of input) text (problem_read input) e
-outcome_lists (jobs.Cover cover_jobs.Count) input text e = listed CountsCovers cover_count_output counts_covers (problem_of input) text (problem_read input) e
-outcome_lists (jobs.Puzzle puzzle_jobs.Solve) input text e = packed ListsPackings solve_output shows (puzzle_of input) text (puzzle_read input) e
-outcome_lists (jobs.Cover (cover_jobs.First n)) input text e = listed (ListsFirstCovers n) (first_cover_output n) (lists_first n) (problem_of input) text (problem_read input) e
-outcome_lists (jobs.Puzzle (puzzle_jobs.First n)) input text e = packed (ListsFirstPackings n) (first_packings_output n) (shows_first n) (puzzle_of input) text (puzzle_read input) e
-outcome_lists (jobs.Puzzle puzzle_jobs.Count) input text e = packed CountsPackings count_output counts (puzzle_of input) text (puzzle_read input) e
-outcome_lists (jobs.Puzzle puzzle_jobs.Classes) input text e = packed CountsClasses classes_output classified (puzzle_of input) text (puzzle_read input) e
-outcome_lists (jobs.Puzzle puzzle_jobs.Options) input text e = packed (λ p t. t ≡ written (packing_problem p)) options_output (λ p z s. options_are p) (puzzle_of input) text (puzzle_read input) e
-outcome_lists (jobs.Puzzle (puzzle_jobs.SolveUpTo group)) input text e = packed (ListsDistinct group) (solve_up_to_output group) (λ p z s. shows_distinct p z s group) (puzzle_of input) text (puzzle_read input) e
-outcome_lists (jobs.Puzzle (puzzle_jobs.CountUpTo group)) input text e = packed (CountsDistinct group) (count_up_to_output group) (λ p z s. counts_distinct p z s group (packing_paths p z s)) (puzzle_of input) text (puzzle_read input) e
-outcome_lists (jobs.Puzzle (puzzle_jobs.OptionsUpTo group)) input text e = packed (GivesSmaller group) (options_up_to_output group) (λ p z s. gives_smaller p z s group) (puzzle_of input) text (puzzle_read input) e
+outcome_lists (jobs.Cover cover_jobs.List) input text e = listed input ListsCovers cover_output lists text e
+outcome_lists (jobs.Cover cover_jobs.Count) input text e = listed input CountsCovers cover_count_output counts_covers text e
+outcome_lists (jobs.Puzzle puzzle_jobs.Solve) input text e = packed input ListsPackings solve_output shows text e
+outcome_lists (jobs.Cover (cover_jobs.First n)) input text e = listed input (ListsFirstCovers n) (first_cover_output n) (lists_first n) text e
+outcome_lists (jobs.Puzzle (puzzle_jobs.First n)) input text e = packed input (ListsFirstPackings n) (first_packings_output n) (shows_first n) text e
+outcome_lists (jobs.Puzzle puzzle_jobs.Count) input text e = packed input CountsPackings count_output counts text e
+outcome_lists (jobs.Puzzle puzzle_jobs.Classes) input text e = packed input CountsClasses classes_output classified text e
+outcome_lists (jobs.Puzzle puzzle_jobs.Options) input text e = packed input (λ p t. t ≡ written (packing_problem p)) options_output (λ p z s. options_are p) text e
+outcome_lists (jobs.Puzzle (puzzle_jobs.SolveUpTo group)) input text e = packed input (ListsDistinct group) (solve_up_to_output group) (λ p z s. shows_distinct p z s group) text e
+outcome_lists (jobs.Puzzle (puzzle_jobs.CountUpTo group)) input text e = packed input (CountsDistinct group) (count_up_to_output group) (λ p z s. counts_distinct p z s group (packing_paths p z s)) text e
+outcome_lists (jobs.Puzzle (puzzle_jobs.OptionsUpTo group)) input text e = packed input (GivesSmaller group) (options_up_to_output group) (λ p z s. gives_smaller p z s group) text e
 outcome_lists (jobs.Puzzle puzzle_jobs.Debug) input text e =
     let lines = command_lines input in
-    packed (λ p t. t ≡ debug_output lines (packing_problem p)) (puzzle_replies lines) (λ p z s. refl) (puzzle_of (problem_text input)) text (puzzle_read (problem_text input)) e
+    packed (problem_text input) (λ p t. t ≡ debug_output lines (packing_problem p)) (puzzle_replies lines) (λ p z s. refl) text e
 outcome_lists (jobs.Cover cover_jobs.Debug) input text e =
     let lines = command_lines input in
-    listed (λ p t. t ≡ debug_output lines p) (debug_output lines) (λ p s. refl) (problem_of (problem_text input)) text (problem_read (problem_text input)) e
-outcome_lists (jobs.Resume steps list) input text e = resumed steps list (snapshot_of input) text (snapshot_read input) e
+    listed (problem_text input) (λ p t. t ≡ debug_output lines p) (debug_output lines) (λ p s. refl) text e
+outcome_lists (jobs.Resume steps list) input text e = resumed steps list input text e
+outcome_lists (jobs.Join counted) input text e = joined_adds counted input text e

@@ -1,5 +1,5 @@
 -- The stretch from a snapshot's state on: where it ends, and that it stops at a snapshot of the same branch.
-use Rattle.std.proofs.Common.{◌≡◌, ◌∙◌, ℕ, ◌+◌, ◌-◌, ◌<◌, ◌≤◌, ◌⊎◌, inl, inr, Option, Some, option_map, List, [], ◌∷◌, ◌++◌, length, refl, sym, ap, arith, le_refl, length-append}
+use Rattle.std.proofs.Common.{◌≡◌, ◌∙◌, ℕ, ◌+◌, ◌-◌, ◌<◌, ◌≤◌, ◌⊎◌, inl, inr, Option, Some, option_map, List, [], ◌∷◌, ◌++◌, length, refl, sym, ap, ap₂, map, subst, false, arith, le_refl, length-append}
 use Rattle.std.proofs.Common as common
 use Rattle.std.proofs.lemmas.Bool.{cases_order}
 use Rattle.cover_problem.specs.Problem.{ProblemValue}
@@ -21,8 +21,12 @@ use Rattle.x_branches.proofs.StageLemmas.{comes_rank}
 use Rattle.x_branches.proofs.RunnerLemmas.{not_before, before_not, other_before}
 use Rattle.x_snapshot.specs.Snapshot.{SnapshotValue, at_state, path_in, IsCutIfAny, IsSnapshot}
 use Rattle.x_snapshot.specs.Writer.{snapshot_text}
+use Rattle.text_lines.specs.Writing.{text_of}
+use Rattle.polylab_engine.specs.Account.{ReportValue, account_of}
+use Rattle.x_texts.specs.Words.{visit_words}
+use Rattle.polylab_engine.specs.Output.{total_lines, report_text}
 use Rattle.polylab_engine.specs.Stretch.{end_at, steps_taken, stop_from}
-use Rattle.polylab_engine.specs.Resumed.{branch_end, stop_of, snapshot_position, end_text, rest_text}
+use Rattle.polylab_engine.specs.Resumed.{branch_end, stop_of, snapshot_position, end_text, rest_text, report_up_to, resume_output}
 use Rattle.polylab_engine.proofs.StopLemmas.{taken_within, taken_or}
 
 -- ---- the end of a branch
@@ -92,6 +96,10 @@ module _ (most : Option ℕ) (v : SnapshotValue) (s : IsSnapshot v) where
   pub not_past : ComesBefore v.problem (branch_end v) (stop_of most v) → ⊥
   not_past = before_not v.problem (branch_end v) (stop_of most v) (end_fits v s) stop_not_past
 
+  -- at the end, if no number was asked for
+  pub stop_whole : stop_of common.None v ≡ branch_end v
+  stop_whole = leads.ends
+
   -- and there is a snapshot again
   pub stop_is_snapshot : IsSnapshot (at_state v (stop_of most v))
   stop_is_snapshot = record {
@@ -131,3 +139,21 @@ pub stop_is : (most : Option ℕ) (v : SnapshotValue) (m : MachineValue) (end : 
 stop_is most v m end here e =
     ap (λ (q : MachineValue). stop_from most q end) here
     ∙ ap (λ (s : StateValue). after v.problem (steps_taken most (steps_between v.problem v.state s)) v.state) e
+
+-- a report that keeps no visit is written as its numbers
+numbers_alone : (r : ReportValue) → r.visits ≡ [] → text_of (total_lines r.visited r.steps r.levels) ≡ report_text r
+numbers_alone r e = ap (λ visits. text_of (map visit_words visits) ++ text_of (total_lines r.visited r.steps r.levels)) (sym e)
+
+none_kept : (v : SnapshotValue) (t : StateValue) → (report_up_to false v t).visits ≡ []
+unfolding account_of
+none_kept v t = refl
+
+-- what is written of the rest of a branch, by its numbers alone
+pub counted_text : (v : SnapshotValue) → IsSnapshot v → (r : ReportValue) (numbers text : List ℕ) → r ≡ report_up_to false v (branch_end v) → numbers ≡ text_of (total_lines r.visited r.steps r.levels) → text ≡ numbers ++ end_text → text ≡ resume_output common.None false v
+unfolding resume_output
+counted_text v s r numbers text e n is =
+    let stop = stop_whole common.None v s in
+    let there : IsSnapshot (at_state v (branch_end v)) = subst (λ t. IsSnapshot (at_state v t)) stop (stop_is_snapshot common.None v s) in
+    let kept : r.visits ≡ [] = ap (λ (q : ReportValue). q.visits) e ∙ none_kept v (branch_end v) in
+    let report : numbers ≡ report_text (report_up_to false v (branch_end v)) = n ∙ numbers_alone r kept ∙ ap report_text e in
+    is ∙ ap₂ (λ xs ys. xs ++ ys) report (sym (rest_ended v (branch_end v) there refl)) ∙ ap (λ t. report_text (report_up_to false v t) ++ rest_text v t) (sym stop)

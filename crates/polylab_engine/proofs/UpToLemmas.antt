@@ -14,7 +14,7 @@ use Rattle.poly_place.specs.Packings.{Thing, packing_problem}
 use Rattle.poly_place.specs.Listing.{AreExactCovers}
 use Rattle.poly_place.proofs.CompiledLemmas.{is_problem}
 use Rattle.poly_distinct.specs.Rule.{anchor_of, symmetries_at}
-use Rattle.poly_distinct.specs.Distinct.{AreTheCovers, AreDifferent, AreOneOfEach, IsPartOf, numbers_left, whole_path}
+use Rattle.poly_distinct.specs.Distinct.{AreTheCovers, AreDifferent, AreOneOfEach, IsPartOf, numbers_left}
 use Rattle.poly_distinct.specs.UpTo.{smaller_at, smaller, whole_paths_at, whole_paths, new_paths, stood_for, each_stands}
 use Rattle.poly_distinct.specs.Free.{acts_freely}
 use Rattle.poly_distinct.proofs.NewLemmas.{distinct_part}

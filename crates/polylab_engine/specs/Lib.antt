@@ -8,6 +8,7 @@ pub mod UpTo
 pub mod Debugged
 pub mod Resumed
 pub mod Joined
+pub mod Added
 pub mod Jobs
 pub mod Outcome
 pub mod Listed

@@ -1,17 +1,16 @@
 -- What the output lists: of `cover` the exact covers of the problem (`ListsCovers`), of `solve` the packings of the puzzle (`ListsPackings`), each
 -- once, in path order; of both with `--first` the first of these (`ListsFirstCovers`, `ListsFirstPackings`);
 -- what `cover --count` tells (`CountsCovers`), and `count` and its classes (`CountsPackings`, `CountsClasses`); what `solve`, `count` and `options` tell up to symmetry (`ListsDistinct`, `CountsDistinct`, `GivesSmaller`);
--- what `resume` tells (`TellsStretch`); and the same by the job (`IsListed`).
+-- what `resume` and `join` tell (`TellsStretch`, `AddsParts`); and the same by the job (`IsListed`).
 --
 -- Example: the path 4 5 1 is an exact cover of the small problem: its options a d f, b g and c e have each item once.
 -- proofs/JobExamples.antt shows it.
-use Rattle.std.specs.Prelude.{ℕ, ◌≡◌, ◌<◌, ◌≤◌, ◌⊎◌, ◌*◌, Bool, true, Option, Some, List, [], ◌∷◌, ◌++◌, length, map, take, Ok}
+use Rattle.std.specs.Prelude.{ℕ, ◌≡◌, ◌<◌, ◌≤◌, ◌⊎◌, ◌*◌, Bool, true, false, Option, Some, List, [], ◌∷◌, ◌++◌, length, map, take, ◌+◌}
 use Rattle.text_lines.specs.Writing.{line_text, text_of}
 use Rattle.cover_problem.specs.Problem.{ProblemValue}
-use Rattle.cover_problem.specs.Grammar.{written}
-use Rattle.cover_problem.specs.Reading.{problem_of}
+use Rattle.cover_problem.specs.Grammar.{written, IsCoverText}
 use Rattle.poly_texts.specs.Puzzle.{PuzzleValue}
-use Rattle.poly_texts.specs.Reading.{puzzle_of}
+use Rattle.poly_texts.specs.Grammar.{IsPuzzleText}
 use Rattle.poly_place.specs.Packings.{ChoiceValue, IsPacking, packing_problem}
 use Rattle.poly_place.specs.Chosen.{chosen_by, is_among}
 use Rattle.poly_place.specs.declared.alike.Group.{Group}
@@ -20,22 +19,27 @@ use Rattle.poly_place.specs.Classes.{AreAlike, IsClassCount}
 use Rattle.x_steps.specs.Order.{IsIn, PathsRise}
 use Rattle.x_steps.specs.Covers.{AreCovers}
 use Rattle.x_steps.specs.StateValue.{StateValue, start, done}
-use Rattle.x_steps.specs.Run.{ReachesIn, steps_between, visits_between}
-use Rattle.x_steps.specs.Levels.{trimmed_levels}
+use Rattle.x_steps.specs.Run.{ReachesIn, states, visits, level_count}
+use Rattle.x_steps.specs.Levels.{without_last_zeros}
+use Rattle.shared_words.specs.Lists.{numbers}
 use Rattle.x_branches.specs.RunOrder.{ComesBefore}
 use Rattle.x_snapshot.specs.Snapshot.{SnapshotValue, IsSnapshot, at_state}
 use Rattle.x_snapshot.specs.Writer.{snapshot_text}
-use Rattle.x_snapshot.specs.Judged.{snapshot_of}
 use Rattle.polylab_engine.specs.Account.{kept}
-use Rattle.polylab_engine.specs.Resumed.{branch_end, end_text, rest_text}
+use Rattle.polylab_engine.specs.Resumed.{branch_end, end_text, report_up_to}
+use Rattle.polylab_engine.specs.Added.{report_counts, AreResumed, IsWholeRun}
+use Rattle.part_sums.specs.declared.total.Counted.{Counted}
+use Rattle.part_sums.specs.declared.total.Counted.TheVariants.{Covers, Packings}
+use Rattle.part_sums.specs.Answers.{sum_lines}
+use Rattle.part_sums.specs.Parts.{CountedPart, IsJoined, sum_text}
 use Rattle.polylab_engine.specs.declared.job.Job.{Job}
 use Rattle.polylab_engine.specs.declared.job.Job.TheVariants as jobs
 use Rattle.polylab_engine.specs.declared.job.CoverJob.TheVariants as cover_jobs
 use Rattle.polylab_engine.specs.declared.job.PuzzleJob.TheVariants as puzzle_jobs
 use Rattle.x_texts.specs.Words.{visit_words}
-use Rattle.polylab_engine.specs.Output.{total_lines}
+use Rattle.polylab_engine.specs.Output.{total_lines, cover_count_output}
 use Rattle.poly_place.specs.Listing.{packings_from}
-use Rattle.polylab_engine.specs.Packed.{number_line, count_lines}
+use Rattle.polylab_engine.specs.Packed.{number_line, count_lines, count_output}
 use Rattle.polylab_engine.specs.First.{stopped_line}
 use Rattle.polylab_engine.specs.Classified.{packings_of, class_lines}
 use Rattle.poly_distinct.specs.Distinct.{AreOneOfEach, MeetAll}
@@ -145,39 +149,68 @@ pub record GivesSmaller (group : Group) (p : PuzzleValue) (text : List ℕ) : Ty
   pub alone : (covers : List (List ℕ)) → acts_freely p group ≡ true → AreCovers (smaller p group) covers → PathsRise covers
       → AreOneOfEach p group (whole_paths p group covers)
 
+-- the lines of a stretch that passes these states: its visits, if they are listed, and how many visits, steps, and X2 states at each level it
+-- has
+abbrev pub stretch_text : Bool → ProblemValue → List StateValue → List ℕ
+stretch_text lists p passed =
+    text_of (map visit_words (kept lists (visits p passed)))
+    ++ text_of (total_lines (length (visits p passed)) (length passed) (without_last_zeros (map (level_count passed) (numbers (length p.names + 1) 0))))
+
 -- the text tells of the stretch of a run from a snapshot's state on: it stops at the end of the snapshot's branch, or as many steps on as
--- were asked for, and never past that end. The visits that are listed, if they are, and counted are those of the run between the two
--- states, no other and none twice; so are the steps and the levels. Where it stops there is a snapshot of the same problem and branch
--- again, and that is written, but at the end
+-- were asked for, and never past that end. It passes the states of the run between the two, and its lines are of these. The run's visits
+-- are those before it, its own, and those after it. Where it stops there is a snapshot of the same problem and branch again, and that is
+-- written, but at the end
 pub record TellsStretch (most : Option ℕ) (lists : Bool) (v : SnapshotValue) (text : List ℕ) : Type 0 where
   pub stop : StateValue
-  pub reached : ReachesIn v.problem v.state stop (steps_between v.problem v.state stop)
+  pub before : ℕ
+  pub steps : ℕ
+  pub later : ℕ
+  pub all : ℕ
+  pub begins : ReachesIn v.problem start v.state before
+  pub reached : ReachesIn v.problem v.state stop steps
+  pub goes_on : ReachesIn v.problem stop done later
+  pub run : ReachesIn v.problem start done all
+  pub part : visits v.problem (states v.problem all start)
+      ≡ visits v.problem (states v.problem before start) ++ visits v.problem (states v.problem steps v.state) ++ visits v.problem (states v.problem later stop)
   pub not_past : ComesBefore v.problem (branch_end v) stop → ⊥
-  pub stops : (stop ≡ branch_end v) ⊎ (most ≡ Some (steps_between v.problem v.state stop))
-  pub lines : text ≡ (text_of (map visit_words (kept lists (visits_between v.problem v.state stop)))
-      ++ text_of (total_lines (length (visits_between v.problem v.state stop)) (steps_between v.problem v.state stop)
-      (trimmed_levels v.problem v.state stop))) ++ rest_text v stop
-  pub part : visits_between v.problem start done ≡
-      visits_between v.problem start v.state ++ visits_between v.problem v.state stop ++ visits_between v.problem stop done
-  pub goes_on : IsSnapshot (at_state v stop)
-  pub ended : stop ≡ branch_end v → rest_text v stop ≡ end_text
-  pub unended : (stop ≡ branch_end v → ⊥) → rest_text v stop ≡ snapshot_text (at_state v stop)
+  pub stops : (stop ≡ branch_end v) ⊎ (most ≡ Some steps)
+  pub rest : List ℕ
+  pub lines : text ≡ stretch_text lists v.problem (states v.problem steps v.state) ++ rest
+  pub snapshot : IsSnapshot (at_state v stop)
+  pub ended : stop ≡ branch_end v → rest ≡ end_text
+  pub unended : (stop ≡ branch_end v → ⊥) → rest ≡ snapshot_text (at_state v stop)
 
--- what is written is what the job is to tell of the input's problem, puzzle or snapshot, or what the input's commands are answered
+-- the text is the lines of the sum of a whole's parts, which join from its state to its branch's end. If each part's answer is what
+-- `resume` writes of it, these say what is reported of the whole: of a whole run what `cover --count` writes of its problem, and if that is
+-- a puzzle's, what `count` writes of the puzzle
+pub record AddsParts (counted : Counted) (input text : List ℕ) : Type 0 where
+  pub whole : SnapshotValue
+  pub parts : List CountedPart
+  pub joined : IsJoined input whole parts
+  pub lines : text ≡ sum_text counted whole parts
+  pub resumed : AreResumed parts
+      → text ≡ text_of (sum_lines counted whole.problem (report_counts (report_up_to false whole (branch_end whole))))
+  pub covers : counted ≡ Covers → AreResumed parts → IsWholeRun whole → text ≡ cover_count_output whole.problem
+  pub packings : counted ≡ Packings → AreResumed parts → IsWholeRun whole
+      → (p : PuzzleValue) → whole.problem ≡ packing_problem p → text ≡ count_output p
+
+-- the input is a text of a problem or a puzzle, that of a snapshot, or that of a whole's parts, and what is written is what the job is to tell of
+-- it, or what its commands are answered
 abbrev pub IsListed : Job → List ℕ → List ℕ → Type 0
-IsListed (jobs.Cover cover_jobs.List) input text = (p : ProblemValue) × (problem_of input ≡ Ok p) × ListsCovers p text
-IsListed (jobs.Cover cover_jobs.Count) input text = (p : ProblemValue) × (problem_of input ≡ Ok p) × CountsCovers p text
-IsListed (jobs.Cover (cover_jobs.First n)) input text = (p : ProblemValue) × (problem_of input ≡ Ok p) × ListsFirstCovers n p text
-IsListed (jobs.Cover cover_jobs.Debug) input text = (p : ProblemValue) × (problem_of (problem_text input) ≡ Ok p)
+IsListed (jobs.Cover cover_jobs.List) input text = (p : ProblemValue) × IsCoverText input p × ListsCovers p text
+IsListed (jobs.Cover cover_jobs.Count) input text = (p : ProblemValue) × IsCoverText input p × CountsCovers p text
+IsListed (jobs.Cover (cover_jobs.First n)) input text = (p : ProblemValue) × IsCoverText input p × ListsFirstCovers n p text
+IsListed (jobs.Cover cover_jobs.Debug) input text = (p : ProblemValue) × IsCoverText (problem_text input) p
     × (text ≡ debug_output (command_lines input) p)
-IsListed (jobs.Puzzle puzzle_jobs.Solve) input text = (p : PuzzleValue) × (puzzle_of input ≡ Ok p) × ListsPackings p text
-IsListed (jobs.Puzzle (puzzle_jobs.First n)) input text = (p : PuzzleValue) × (puzzle_of input ≡ Ok p) × ListsFirstPackings n p text
-IsListed (jobs.Puzzle puzzle_jobs.Count) input text = (p : PuzzleValue) × (puzzle_of input ≡ Ok p) × CountsPackings p text
-IsListed (jobs.Puzzle puzzle_jobs.Classes) input text = (p : PuzzleValue) × (puzzle_of input ≡ Ok p) × CountsClasses p text
-IsListed (jobs.Puzzle puzzle_jobs.Options) input text = (p : PuzzleValue) × (puzzle_of input ≡ Ok p) × (text ≡ written (packing_problem p))
-IsListed (jobs.Puzzle (puzzle_jobs.SolveUpTo group)) input text = (p : PuzzleValue) × (puzzle_of input ≡ Ok p) × ListsDistinct group p text
-IsListed (jobs.Puzzle (puzzle_jobs.CountUpTo group)) input text = (p : PuzzleValue) × (puzzle_of input ≡ Ok p) × CountsDistinct group p text
-IsListed (jobs.Puzzle (puzzle_jobs.OptionsUpTo group)) input text = (p : PuzzleValue) × (puzzle_of input ≡ Ok p) × GivesSmaller group p text
-IsListed (jobs.Puzzle puzzle_jobs.Debug) input text = (p : PuzzleValue) × (puzzle_of (problem_text input) ≡ Ok p)
+IsListed (jobs.Puzzle puzzle_jobs.Solve) input text = (p : PuzzleValue) × IsPuzzleText input p × ListsPackings p text
+IsListed (jobs.Puzzle (puzzle_jobs.First n)) input text = (p : PuzzleValue) × IsPuzzleText input p × ListsFirstPackings n p text
+IsListed (jobs.Puzzle puzzle_jobs.Count) input text = (p : PuzzleValue) × IsPuzzleText input p × CountsPackings p text
+IsListed (jobs.Puzzle puzzle_jobs.Classes) input text = (p : PuzzleValue) × IsPuzzleText input p × CountsClasses p text
+IsListed (jobs.Puzzle puzzle_jobs.Options) input text = (p : PuzzleValue) × IsPuzzleText input p × (text ≡ written (packing_problem p))
+IsListed (jobs.Puzzle (puzzle_jobs.SolveUpTo group)) input text = (p : PuzzleValue) × IsPuzzleText input p × ListsDistinct group p text
+IsListed (jobs.Puzzle (puzzle_jobs.CountUpTo group)) input text = (p : PuzzleValue) × IsPuzzleText input p × CountsDistinct group p text
+IsListed (jobs.Puzzle (puzzle_jobs.OptionsUpTo group)) input text = (p : PuzzleValue) × IsPuzzleText input p × GivesSmaller group p text
+IsListed (jobs.Puzzle puzzle_jobs.Debug) input text = (p : PuzzleValue) × IsPuzzleText (problem_text input) p
     × (text ≡ debug_output (command_lines input) (packing_problem p))
-IsListed (jobs.Resume steps list) input text = (v : SnapshotValue) × (snapshot_of input ≡ Ok v) × IsSnapshot v × TellsStretch steps list v text
+IsListed (jobs.Resume steps list) input text = (v : SnapshotValue) × (input ≡ snapshot_text v) × IsSnapshot v × TellsStretch steps list v text
+IsListed (jobs.Join counted) input text = AddsParts counted input text

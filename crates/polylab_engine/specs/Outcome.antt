@@ -39,6 +39,9 @@ use Rattle.x_snapshot.specs.Faults as snapshot_faults
 use Rattle.x_snapshot.specs.Snapshot.{SnapshotValue}
 use Rattle.x_snapshot.specs.Judged.{snapshot_of}
 use Rattle.polylab_engine.specs.Resumed.{resume_output}
+use Rattle.part_sums.specs.declared.fault.JoinFault.{JoinFault}
+use Rattle.part_sums.specs.Faults as join_faults
+use Rattle.part_sums.specs.Joining.{join_of}
 
 -- the words of a refused text: what it was to be, the fault's number, its name, and the number of its line
 abbrev pub refusal_words : List ℕ → ℕ → List ℕ → ℕ → List (List ℕ)
@@ -61,6 +64,10 @@ abbrev pub snapshot_refusal : SnapshotFault → List ℕ
 snapshot_refusal fault = line_text (codes "refused" ∷ codes "snapshot" ∷ decimal (unwrap_or (snapshot_faults.number_of fault) 0)
     ∷ snapshot_faults.name_of fault ∷ [])
 
+-- the line that refuses a text of a whole and its parts
+abbrev pub join_refusal : JoinFault → ℕ → List ℕ
+join_refusal fault line = line_text (refusal_words (codes "join") (join_faults.number_of fault) (join_faults.name_of fault) line)
+
 -- what is written of a problem, or the refusal of a text
 abbrev pub covers_of : (ProblemValue → List ℕ) → Result ProblemValue (Fault × ℕ) → Result (List ℕ) (List ℕ)
 covers_of output (Ok p) = Ok (output p)
@@ -75,6 +82,11 @@ packed_of output (Err f) = Err (puzzle_refusal f.0 f.1)
 abbrev pub resumed_of : (SnapshotValue → List ℕ) → Result SnapshotValue SnapshotFault → Result (List ℕ) (List ℕ)
 resumed_of output (Ok v) = Ok (output v)
 resumed_of output (Err fault) = Err (snapshot_refusal fault)
+
+-- the lines of a sum, or the refusal of a text
+abbrev pub joined_of : Result (List ℕ) (JoinFault × ℕ) → Result (List ℕ) (List ℕ)
+joined_of (Ok lines) = Ok lines
+joined_of (Err f) = Err (join_refusal f.0 f.1)
 
 -- what commands are answered over the problem of a puzzle
 abbrev pub puzzle_replies : List (List ℕ) → PuzzleValue → List ℕ
@@ -119,6 +131,7 @@ unfoldable pub job_outcome : Job → List ℕ → Result (List ℕ) (List ℕ)
 job_outcome (jobs.Cover job) input = cover_outcome job input
 job_outcome (jobs.Puzzle job) input = puzzle_outcome job input
 job_outcome (jobs.Resume steps list) input = resumed_of (resume_output steps list) (snapshot_of input)
+job_outcome (jobs.Join counted) input = joined_of (join_of counted input)
 
 -- what is to be written: the text, or nothing where the input is refused
 abbrev pub to_write : Result (List ℕ) (List ℕ) → List ℕ

@@ -63,6 +63,7 @@ abbrev pub pool_faults : Job → (PoolFault → Type 0) → List ℕ → PoolFau
 pool_faults (jobs.Cover job) May input = cover_faults job May input
 pool_faults (jobs.Puzzle job) May input = puzzle_faults job May input
 pool_faults (jobs.Resume steps list) May input = NoPool
+pool_faults (jobs.Join counted) May input = NoPool
 
 -- these may be of all bytes of an input
 abbrev pub MayOfInput : (List ℕ → PoolFault → Type 0) → Stream → PoolFault → Type 0

@@ -4,13 +4,14 @@ ghost use Rattle.text_lines.specs.Writing.{line_text};
 ghost use Rattle.cover_problem.specs.Reading.{problem_of};
 ghost use Rattle.poly_texts.specs.Reading.{puzzle_of};
 ghost use Rattle.x_snapshot.specs.Judged.{snapshot_of};
+ghost use Rattle.part_sums.specs.Joining.{join_of};
 ghost use Rattle.lab_pool.specs.declared.fault.PoolFault.{PoolFault};
 ghost use Rattle.polylab_engine.specs.declared.job.Job.{Job};
 ghost use Rattle.polylab_engine.specs.declared.job.Job.TheVariants as jobs;
 ghost use Rattle.polylab_engine.specs.Jobs.{takes_commands};
-ghost use Rattle.polylab_engine.specs.Outcome.{refusal_words, cover_refusal, puzzle_refusal, place_refusal, snapshot_refusal};
+ghost use Rattle.polylab_engine.specs.Outcome.{refusal_words, cover_refusal, puzzle_refusal, place_refusal, snapshot_refusal, joined_of};
 ghost use Rattle.polylab_engine.specs.Outcome.{packable, packed_of, job_outcome, listing_of, output_of, HasOutcome, Finds};
-ghost use Rattle.polylab_engine.specs.Refusals.{IsNoTextOf, cover_faults, puzzle_faults, pool_faults};
+ghost use Rattle.polylab_engine.specs.Refusals.{IsNoTextOf, NoPool, cover_faults, puzzle_faults, pool_faults};
 ghost use Rattle.shared_words.specs.Answers.{ReturnsItems};
 
 use crate::classes::count_classes;
@@ -23,10 +24,11 @@ use crate::up_to::{count_up_to, options_up_to, solve_up_to};
 use crate::workers::Workers;
 use cover_problem::{CoverFault, Problem, read_cover};
 use debug_language::write_snapshot_fault;
+use part_sums::{Counted, join};
 use poly_place::{Compiled, PlaceFault, compile};
 use poly_texts::{Puzzle, PuzzleFault, read_puzzle};
 use std::alloc::{AllocError, Global};
-use text_lines::{write_number, write_word};
+use text_lines::{TextRefusal, write_number, write_word};
 use x_snapshot::{Snapshot, read_snapshot};
 
 /// Why there is no text to write.
@@ -99,8 +101,16 @@ pub fn text_for<W: Workers>(
         }
         Job::Resume { steps, list } => {
             let snapshot = snapshot_in(alloc, input)?;
-            Ok(resume(alloc, workers.table(), steps, list, snapshot)?)
+            Ok(resume(
+                alloc,
+                workers.table(),
+                workers.cache(),
+                steps,
+                list,
+                snapshot,
+            )?)
         }
+        Job::Join(counted) => joined_text(alloc, counted, &input),
     }
 }
 
@@ -172,6 +182,21 @@ fn snapshot_in(alloc: Global, text: Vec<u8>) -> Result<Snapshot, NoText>
             write_snapshot_fault(&mut line, fault)?;
             Err(NoText::Refused(line))
         }
+    }
+}
+
+/// The lines of the sum of a text's parts, or the refusal of the text.
+fn joined_text(alloc: Global, counted: Counted, text: &[u8]) -> Result<Vec<u8>, NoText>
+    ensures text { HasOutcome result (joined_of (join_of counted text.now)) }
+    ensures why { IfErr result (IsNoTextOf NoPool) }
+{
+    match join(alloc, text, counted) {
+        Ok(lines) => Ok(lines),
+        Err(TextRefusal::Fault { fault, line }) => {
+            let (number, name) = (fault.number(), fault.name());
+            Err(NoText::Refused(refusal(alloc, "join", number, name, line)?))
+        }
+        Err(TextRefusal::OutOfMemory) => Err(NoText::Fault(JobFault::OutOfMemory)),
     }
 }
 

@@ -2,6 +2,7 @@
 ghost use Rattle.std.specs.Prelude.{◌≡◌};
 ghost use Rattle.polylab_engine.specs.Jobs.{is_first, debugged, takes_commands};
 
+use part_sums::Counted;
 use poly_place::Group;
 
 /// What the program is asked to do with its input.
@@ -13,6 +14,8 @@ pub enum Job {
     Puzzle(PuzzleJob),
     /// Go on from a snapshot, up to its branch's end, or so many steps on where that comes first; list the visits or count them.
     Resume { steps: Option<u64>, list: bool },
+    /// Add up the answers of a search's parts, as those of a cover text or of a puzzle.
+    Join(Counted),
 }
 
 /// What is asked of a cover text.

@@ -25,6 +25,7 @@ mod workers;
 
 pub use engine::{run_alone, run_together};
 pub use job::{CoverJob, Job, PuzzleJob};
+pub use part_sums::Counted;
 pub use poly_place::Group;
 pub use tables::TableKind;
 pub use workers::{Alone, Team};

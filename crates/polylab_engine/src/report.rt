@@ -79,7 +79,7 @@ impl Report<Lists> {
         Report::of_numbers(alloc, visits, book.visited(), book.steps(), &levels)
     }
 
-    /// The report of these counts of a whole run, which has no visit.
+    /// The report of these counts of a stretch, which has no visit.
     pub fn of_counts(alloc: Global, counts: Counts) -> Report<Lists>
         ensures visits { result.visits ≡ [] }
         ensures visited { result.visited ≡ counts.visits }

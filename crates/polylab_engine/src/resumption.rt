@@ -1,5 +1,5 @@
 //! A search goes on from a snapshot.
-ghost use Rattle.std.specs.Prelude.{◌≡◌, ◌↔◌, IfOk, IsTrue};
+ghost use Rattle.std.specs.Prelude.{◌≡◌, ◌↔◌, false, None, IfOk, IsTrue};
 ghost use Rattle.x_steps.specs.StateValue.{at, done};
 ghost use Rattle.x_steps.specs.StateView.{state_value};
 ghost use Rattle.x_snapshot.specs.Snapshot.{IsSnapshot, at_state};
@@ -10,7 +10,8 @@ ghost use Rattle.shared_words.specs.Answers.{ReturnsItems};
 
 use crate::cover::report_text;
 use crate::report::Report;
-use crate::searcher::Searcher;
+use crate::search::count_stretch;
+use crate::searcher::{Searcher, last_state};
 use crate::stretch::search_on;
 use crate::tables::TableKind;
 use std::alloc::{AllocError, Global};
@@ -19,9 +20,29 @@ use x_steps::{Cursor, Label, State};
 use x_texts::VisitText;
 
 /// What `resume` writes of a snapshot: the report of the stretch from its state on, with the visits or without them, up to the end of
-/// its branch, or as many steps on as are asked for, where that comes first; and then that it ended, or the snapshot there.
-#[tactic(auto, unfolding(crate::specs::Resumed::resume_output))]
+/// its branch, or as many steps on as are asked for, where that comes first; and then that it ended, or the snapshot there. Where neither
+/// visits nor a number of steps are asked for, what lies below a set of covered items is searched once, as long as its counts are kept in
+/// `cache` bytes, if some are.
 pub fn resume(
+    alloc: Global,
+    table: Option<TableKind>,
+    cache: Option<usize>,
+    most: Option<u64>,
+    lists: bool,
+    snapshot: Snapshot,
+) -> Result<Vec<u8>, AllocError>
+    ensures { ReturnsItems result (resume_output most lists snapshot) }
+{
+    match (cache, most, lists) {
+        // Counts that are kept tell neither the visits, nor where a number of steps leads.
+        (Some(room), None, false) => counted(alloc, table, room, &snapshot),
+        _ => walked(alloc, table, most, lists, snapshot),
+    }
+}
+
+/// The same of a walk.
+#[tactic(auto, unfolding(crate::specs::Resumed::resume_output))]
+fn walked(
     alloc: Global,
     table: Option<TableKind>,
     most: Option<u64>,
@@ -37,6 +58,45 @@ pub fn resume(
     let rest = rest_of(alloc, snapshot, stop)?;
     text.extend_from_slice(&rest)?;
     Ok(text)
+}
+
+/// The numbers up to the end of the branch, counted with a cache.
+fn counted(
+    alloc: Global,
+    table: Option<TableKind>,
+    room: usize,
+    snapshot: &Snapshot,
+) -> Result<Vec<u8>, AllocError>
+    ensures { ReturnsItems result (resume_output None false snapshot.now) }
+{
+    snapshot.is_sound();
+    let end = end_state(alloc, snapshot)?;
+    let report = count_stretch(
+        alloc,
+        snapshot.problem(),
+        table,
+        snapshot.state(),
+        &end,
+        room,
+    )?;
+    let mut text = Vec::new(alloc);
+    report.push_totals(alloc, &mut text)?;
+    text.extend_from_slice(b"end\n")?;
+    Ok(text)
+}
+
+/// The state where a snapshot's branch ends.
+fn end_state(alloc: Global, snapshot: &Snapshot) -> Result<State, AllocError>
+    ensures { IfOk result (λ s. state_value s ≡ branch_end snapshot.now) }
+{
+    match end_choices(snapshot).split_last() {
+        Some((last, front)) => Ok(State {
+            label: Label::X5,
+            path: Vec::from_slice(alloc, front)?,
+            cursor: Cursor::At(*last),
+        }),
+        None => Ok(last_state(alloc)),
+    }
 }
 
 /// The choices of the cut where a snapshot's branch ends; none where it ends with the run.

@@ -1,5 +1,8 @@
 //! The run of a problem, whole or up to a visit, and its report.
 ghost use Rattle.std.specs.Prelude.{false, IfOk, IfErr};
+ghost use Rattle.x_steps.specs.StateView.{state_value, IsState};
+ghost use Rattle.x_branches.specs.RunOrder.{ComesBefore};
+ghost use Rattle.polylab_engine.specs.Stretch.{stretch_report};
 ghost use Rattle.polylab_engine.specs.First.{IsFirstReport};
 ghost use Rattle.polylab_engine.specs.Output.{whole_report};
 ghost use Rattle.polylab_engine.specs.Refusals.{IsWantOrPool};
@@ -8,19 +11,20 @@ ghost use Rattle.shared_words.specs.Answers.{Returns};
 
 use crate::fault::JobFault;
 use crate::report::Report;
-use crate::searcher::Searcher;
+use crate::searcher::{Searcher, first_state, last_state};
 use crate::stretch::search_on;
 use crate::tables::{TableKind, table_for};
 use crate::visits::Visits;
 use crate::workers::Team;
 use cover_bits::BitTable;
-use cover_counts::count_all;
+use cover_counts::count_between;
 use cover_links::LinkTable;
 use cover_problem::{Lists, Problem, Table};
 use lab_pool::{Gate, run_pool};
 use std::alloc::{AllocError, Global};
 use std::sync::Wait;
 use std::thread::Threads;
+use x_steps::State;
 
 /// The report of one worker, who takes a search through the run.
 pub fn search_alone<V: Visits>(
@@ -46,9 +50,33 @@ pub fn count_alone(
 ) -> Result<Report<Lists>, AllocError>
     ensures { Returns result (whole_report false problem.now) }
 {
+    count_stretch(
+        alloc,
+        problem,
+        table,
+        &first_state(alloc),
+        &last_state(alloc),
+        room,
+    )
+}
+
+/// The same of the stretch from a state of the run up to another one, which doesn't come before it.
+pub fn count_stretch(
+    alloc: Global,
+    problem: &Problem,
+    table: Option<TableKind>,
+    from: &State,
+    to: &State,
+    room: usize,
+) -> Result<Report<Lists>, AllocError>
+    requires from { IsState problem.now from.now }
+    requires to { IsState problem.now to.now }
+    requires not_past { ComesBefore problem.now (state_value to.now) (state_value from.now) → ⊥ }
+    ensures { Returns result (stretch_report false problem.now (state_value from.now) (state_value to.now)) }
+{
     match table_for(alloc, problem, 1, table) {
-        Some(TableKind::Links) => count_by::<LinkTable>(alloc, problem, room),
-        Some(TableKind::Bits) => count_by::<BitTable>(alloc, problem, room),
+        Some(TableKind::Links) => count_by::<LinkTable>(alloc, problem, from, to, room),
+        Some(TableKind::Bits) => count_by::<BitTable>(alloc, problem, from, to, room),
         None => Err(AllocError),
     }
 }
@@ -57,11 +85,16 @@ pub fn count_alone(
 fn count_by<T: Table>(
     alloc: Global,
     problem: &Problem,
+    from: &State,
+    to: &State,
     room: usize,
 ) -> Result<Report<Lists>, AllocError>
-    ensures { Returns result (whole_report false problem.now) }
+    requires from { IsState problem.now from.now }
+    requires to { IsState problem.now to.now }
+    requires not_past { ComesBefore problem.now (state_value to.now) (state_value from.now) → ⊥ }
+    ensures { Returns result (stretch_report false problem.now (state_value from.now) (state_value to.now)) }
 {
-    let counts = count_all::<T>(alloc, problem, room)?;
+    let counts = count_between::<T>(alloc, problem, from, to, room)?;
     Ok(Report::of_counts(alloc, counts))
 }
 

@@ -3,7 +3,7 @@ ghost use Rattle.std.specs.Prelude.{◌≡◌, Option, IfOk, IfSome};
 ghost use Rattle.std.specs.Option.{ForSome};
 ghost use Rattle.shared_words.specs.Answers.{Returns};
 ghost use Rattle.cover_problem.specs.Problem.{IsProblem};
-ghost use Rattle.x_steps.specs.StateValue.{start};
+ghost use Rattle.x_steps.specs.StateValue.{start, done};
 ghost use Rattle.x_steps.specs.StateView.{state_value, IsState};
 ghost use Rattle.x_steps.specs.Steps.{Fits};
 ghost use Rattle.x_steps.specs.Resume.{position};
@@ -59,6 +59,17 @@ pub fn first_state(alloc: Global) -> State
 {
     State {
         label: Label::X1,
+        path: Vec::new(alloc),
+        cursor: Cursor::None,
+    }
+}
+
+/// The state after the last step of a search.
+pub fn last_state(alloc: Global) -> State
+    ensures { state_value result ≡ done }
+{
+    State {
+        label: Label::Done,
         path: Vec::new(alloc),
         cursor: Cursor::None,
     }

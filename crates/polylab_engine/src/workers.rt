@@ -42,6 +42,9 @@ pub trait Workers {
     /// The table that was asked for, if one was.
     fn table(&self) -> Option<TableKind>;
 
+    /// How many bytes are for counts of what lies below sets of covered items, if some are.
+    fn cache(&self) -> Option<usize>;
+
     /// Takes the run of the problem from X1 to Done, and reports it: the totals, and the visits in path order where they are kept.
     fn search(
         &self,
@@ -77,6 +80,10 @@ impl Workers for Alone {
 
     fn table(&self) -> Option<TableKind> {
         self.table
+    }
+
+    fn cache(&self) -> Option<usize> {
+        self.cache
     }
 
     fn search(
@@ -117,6 +124,11 @@ impl<S: Fn(Global, &Problem, bool) -> Result<Report<Lists>, JobFault>, D> Worker
 
     fn table(&self) -> Option<TableKind> {
         self.table
+    }
+
+    fn cache(&self) -> Option<usize> {
+        // It would be one for each of them.
+        None
     }
 
     fn search(

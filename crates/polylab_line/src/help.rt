@@ -235,7 +235,8 @@ workers of `pool` not done, 5 reading or writing failed.",
 
 pub(crate) const RESUME: JobHelp = JobHelp {
     name: "resume",
-    usage: "polylab resume [--table links|bits] [--steps N] [--list] < SNAPSHOT",
+    usage: "polylab resume [[--steps N] [--list] | --cache MB] [--table links|bits]
+       < SNAPSHOT",
     about: "Counts a branch of a search from a snapshot on, in slices if you like.",
     text: "\
 It reads a snapshot, which `save` of `debug` prints (without the line before it,
@@ -266,10 +267,50 @@ and the rest of the snapshot there, of which `polylab resume` prints
 With --list a line `visit` comes first for each visit, as `cover` prints it;
 without it no visit is kept.
 
+With --cache MB it prints the same numbers, and searches what lies below a set
+of items once, as long as its counts are kept in MB megabytes (see `count
+--help`). It goes with neither --steps nor --list.
+
 A refusal is one line on standard error: `refused snapshot 5 NotOnRun`.
 Exit statuses: 0 done, 2 command line refused, 3 text refused, 4 no memory,
 5 reading or writing failed.",
 };
+
+pub(crate) const JOIN: JobHelp = JobHelp {
+    name: "join",
+    usage: "polylab join [--packings] < WHOLE-AND-PARTS",
+    about: "Adds up what `resume` counted of the parts of a search.",
+    text: "\
+It reads the snapshot of the whole search, up to its line `end`, and then of each
+part, in order, the lines of its snapshot from `from` to `end` and what `polylab
+resume` printed of it, up to `end` too. It prints what `cover --count` prints of
+the whole; with --packings what `count` prints, of the problem of a puzzle.
+
+It checks that each part is of this problem and on its run, and begins where the
+one before it ends, the first where the whole begins and the last up to its end.
+It searches nothing: that the answers are those of the parts is what you say.
+
+Example: of small.cover (see `cover --help`), whose run is cut at the choice 4,
+the lines of the snapshot at its start are followed by
+  from start
+  to 4
+  state X1 -
+  end
+  visits 0
+  steps 20
+  levels 1 1 1
+  end
+and by those of the part from 4 to end, and it prints
+  visits 1
+  steps 43
+  levels 1 2 2 1
+
+A refusal is one line on standard error: `refused join 4 Gap line 14`.
+Exit statuses: 0 done, 2 command line refused, 3 text refused, 4 no memory,
+5 reading or writing failed.",
+};
+
+pub(crate) const PACKINGS: &str = "The visits are packings of a puzzle";
 
 pub(crate) const COUNT_ALONE: &str = "Prints their number, the steps and the levels alone";
 

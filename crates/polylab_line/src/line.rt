@@ -8,7 +8,7 @@ ghost use Rattle.polylab_line.specs.Line.{is_alone, status_of};
 use crate::help::{self, JobHelp};
 use clap::error::ErrorKind;
 use clap::{Arg, ArgAction, ArgMatches, Command, Error, value_parser};
-use polylab_engine::{CoverJob, Group, Job, PuzzleJob, TableKind};
+use polylab_engine::{Counted, CoverJob, Group, Job, PuzzleJob, TableKind};
 use shared_words::MOST_WORKERS;
 use std::alloc::{AllocError, Global};
 
@@ -98,12 +98,16 @@ fn table<'a>(alloc: Global) -> Arg<'a> {
         .help(help::TABLE)
 }
 
-/// The option that says how many megabytes are for counts that are kept. Workers share no cache.
-fn cache<'a>(alloc: Global) -> Result<Arg<'a>, AllocError> {
+/// The option that says how many megabytes are for counts that are kept.
+fn cache<'a>(alloc: Global) -> Arg<'a> {
     option(alloc, "cache", "MB")
         .value_parser(value_parser!(u32).range(1..))
         .help(help::CACHE)
-        .conflicts_with("workers")
+}
+
+/// The same of a job that workers may do: they share no cache.
+fn own_cache<'a>(alloc: Global) -> Result<Arg<'a>, AllocError> {
+    cache(alloc).conflicts_with("workers")
 }
 
 /// The option that says how many are asked for.
@@ -142,7 +146,7 @@ fn cover<'a>(alloc: Global) -> Result<Command<'a>, AllocError> {
     let count = flag(alloc, "count", help::COUNT_ALONE);
     listed(alloc, &help::COVER)?
         .arg(count.conflicts_with("first")?)?
-        .arg(cache(alloc)?.requires_arg("count")?)
+        .arg(own_cache(alloc)?.requires_arg("count")?)
 }
 
 /// The job `solve`.
@@ -157,7 +161,7 @@ fn count<'a>(alloc: Global) -> Result<Command<'a>, AllocError> {
         .arg(table(alloc))?
         .arg(flag(alloc, "classes", help::CLASSES))?
         .arg(up_to(alloc).conflicts_with("classes")?)?
-        .arg(cache(alloc)?.conflicts_with("classes")?)
+        .arg(own_cache(alloc)?.conflicts_with("classes")?)
 }
 
 /// The job `resume`.
@@ -165,7 +169,18 @@ fn resume<'a>(alloc: Global) -> Result<Command<'a>, AllocError> {
     job(alloc, &help::RESUME)
         .arg(table(alloc))?
         .arg(steps(alloc))?
-        .arg(flag(alloc, "list", help::LIST))
+        .arg(flag(alloc, "list", help::LIST))?
+        // Counts that are kept tell neither the visits, nor where a number of steps leads.
+        .arg(
+            cache(alloc)
+                .conflicts_with("steps")?
+                .conflicts_with("list")?,
+        )
+}
+
+/// The job `join`.
+fn join<'a>(alloc: Global) -> Result<Command<'a>, AllocError> {
+    job(alloc, &help::JOIN).arg(flag(alloc, "packings", help::PACKINGS))
 }
 
 /// The command line that the program takes.
@@ -184,7 +199,8 @@ fn command<'a>(alloc: Global) -> Result<Command<'a>, AllocError> {
         .subcommand(count(alloc)?)?
         .subcommand(job(alloc, &help::OPTIONS).arg(up_to(alloc))?)?
         .subcommand(job(alloc, &help::DEBUG).arg(flag(alloc, "cover", help::OF_COVER))?)?
-        .subcommand(resume(alloc)?)
+        .subcommand(resume(alloc)?)?
+        .subcommand(join(alloc)?)
 }
 
 /// How many workers the words of a job ask for. That it is 1 to 32, and 1 where it isn't said, is `clap`'s to see; its answer is
@@ -254,6 +270,8 @@ fn job_of(name: &str, words: &ArgMatches<'_>) -> Job {
             steps: words.get_one::<u64>("steps"),
             list: words.get_flag("list"),
         },
+        "join" if words.get_flag("packings") => Job::Join(Counted::Packings),
+        "join" => Job::Join(Counted::Covers),
         // `cover`: `clap` knows no other name.
         _ => listing(words.get_one::<u64>("first"), words.get_flag("count")),
     }

@@ -2,7 +2,7 @@
 
 use crate::ending::ending_under;
 use lab_pool::NoGate;
-use polylab_engine::{CoverJob, Group, Job, PuzzleJob, TableKind};
+use polylab_engine::{Counted, CoverJob, Group, Job, PuzzleJob, TableKind};
 use polylab_line::{LineFault, Request, parse_line};
 use std::alloc::Global;
 use std::process::Abort;
@@ -12,7 +12,7 @@ use std::thread::Threads;
 /// Words, and what they ask for: a job, how many workers, and a table, if one is named.
 struct Line(&'static [&'static str], Job, u32, Option<TableKind>);
 
-static LINES: [Line; 29] = [
+static LINES: [Line; 31] = [
     Line(&["cover"], Job::Cover(CoverJob::List), 1, None),
     Line(
         &["cover", "--workers", "2"],
@@ -155,6 +155,13 @@ static LINES: [Line; 29] = [
         1,
         None,
     ),
+    Line(&["join"], Job::Join(Counted::Covers), 1, None),
+    Line(
+        &["join", "--packings"],
+        Job::Join(Counted::Packings),
+        1,
+        None,
+    ),
     Line(
         &["resume", "--steps=18446744073709551615"],
         Job::Resume {
@@ -190,7 +197,7 @@ fn the_job_is_read(rt: HostRuntime) {
 /// Words, and the job of one worker and the megabytes that they ask for.
 struct CachedLine(&'static [&'static str], Job, u32);
 
-static CACHED: [CachedLine; 4] = [
+static CACHED: [CachedLine; 5] = [
     CachedLine(&["count", "--cache", "1"], Job::Puzzle(PuzzleJob::Count), 1),
     CachedLine(
         &["count", "--cache=4294967295"],
@@ -206,6 +213,14 @@ static CACHED: [CachedLine; 4] = [
         &["cover", "--cache", "100", "--count"],
         Job::Cover(CoverJob::Count),
         100,
+    ),
+    CachedLine(
+        &["resume", "--cache", "9"],
+        Job::Resume {
+            steps: None,
+            list: false,
+        },
+        9,
     ),
 ];
 
@@ -270,7 +285,7 @@ fn help_is_given(rt: HostRuntime) {
     assert_end(&rt, rt.alloc(), &HELPED, 0, true, false);
 }
 
-static REFUSED: [Words; 60] = [
+static REFUSED: [Words; 63] = [
     Words(&[]),
     Words(&["cover", "--first", "0"]),
     Words(&["solve", "--first", "x"]),
@@ -330,7 +345,10 @@ static REFUSED: [Words; 60] = [
     Words(&["cover", "--count", "--cache", "1", "--workers=1"]),
     Words(&["solve", "--cache", "1"]),
     Words(&["options", "--cache", "1"]),
-    Words(&["resume", "--cache", "1"]),
+    Words(&["resume", "--cache", "0"]),
+    Words(&["resume", "--cache", "1", "--steps", "9"]),
+    Words(&["resume", "--list", "--cache", "1"]),
+    Words(&["resume", "--cache", "1", "--workers", "2"]),
 ];
 
 #[test]

@@ -25,12 +25,11 @@ use Rattle.polylab_engine.specs.Stretch.{stretch_report}
 use Rattle.polylab_engine.specs.Resumed.{branch_end, stop_of, end_text, rest_text, resume_output}
 use Rattle.polylab_engine.specs.Joined.{after_slice, slice_report}
 use Rattle.polylab_engine.specs.Outcome.{job_outcome, covers_of}
-use Rattle.polylab_engine.proofs.ToldLemmas.{snapshot_read}
 use Rattle.polylab_engine.proofs.ResumeLemmas.{stops, stop_is_snapshot, rest_ended}
 use Rattle.resume_laws.specs.ResumedTexts.{report_part, rest_part, IsReportPart, TellsReport, TellsNumbers, RunRequest, to_the_end, IsResumed, IsInput, IsRest, ReachEnd, AllList, TellTogether, whole_text, IsWholeText}
 use Rattle.resume_laws.proofs.PartLemmas.{are_report_lines}
 use Rattle.resume_laws.proofs.WordLemmas.{report_lines, report_is_lines, report_words, report_begins}
-use Rattle.resume_laws.proofs.OutputLemmas.{run_of, snapshot_again, RestOr, rest_or, report_told, resumed_report, resumed_rest, resumed_parts, is_input}
+use Rattle.resume_laws.proofs.OutputLemmas.{snapshot_read, run_of, snapshot_again, RestOr, rest_or, report_told, resumed_report, resumed_rest, resumed_parts, is_input}
 use Rattle.resume_laws.proofs.ChainLemmas.{slices, numbers_told, visits_told}
 
 -- ---- one output

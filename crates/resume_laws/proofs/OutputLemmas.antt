@@ -1,5 +1,5 @@
 -- What `resume` writes of a snapshot: the two parts of it.
-use Rattle.std.proofs.Common.{◌≡◌, ◌∙◌, ◌⊎◌, inl, inr, ℕ, ◌<◌, ◌≤◌, Bool, true, false, cond, Option, List, [], ◌∷◌, ◌++◌, length, decimal, codes, Result, Ok, Err, refl, sym, ap, ap₂, subst, arith, append_assoc}
+use Rattle.std.proofs.Common.{None, ◌≡◌, ◌∙◌, ◌⊎◌, inl, inr, ℕ, ◌<◌, ◌≤◌, Bool, true, false, cond, Option, List, [], ◌∷◌, ◌++◌, length, decimal, codes, Result, Ok, Err, refl, sym, ap, ap₂, subst, arith, append_assoc}
 use Rattle.std.proofs.lemmas.Bool.{and_from, cases_order, ltb-true}
 use Rattle.text_lines.specs.Lines.{lines_of}
 use Rattle.text_lines.specs.Writing.{is_word, line_text, text_of}
@@ -27,7 +27,7 @@ use Rattle.polylab_engine.specs.Resumed.{branch_end, stop_of, end_text, rest_tex
 use Rattle.polylab_engine.specs.Joined.{after_slice, slice_report}
 use Rattle.polylab_engine.specs.Outcome.{job_outcome, resumed_of}
 use Rattle.polylab_engine.proofs.ResumeLemmas.{end_fits, stop_fits, stop_not_past}
-use Rattle.polylab_engine.proofs.ToldLemmas.{snapshot_read}
+use Rattle.polylab_engine.proofs.ToldLemmas.{resumed}
 use Rattle.resume_laws.specs.ResumedTexts.{ended_lines, report_part, rest_part, RunRequest, IsResumed, IsInput}
 use Rattle.resume_laws.proofs.PartLemmas.{starts_rest, ended_text, report_is, rest_is}
 use Rattle.resume_laws.proofs.WordLemmas.{decimal_is_word, report_lines, report_is_lines, report_words, report_begins}
@@ -63,6 +63,12 @@ snapshot_ended v =
 -- what is written of a snapshot is read as it
 pub snapshot_again : (v : SnapshotValue) → IsSnapshot v → snapshot_of (snapshot_text v) ≡ Ok v
 snapshot_again v s = read_judged (snapshot_text v) v (parts_again v s) s
+
+-- a text that is read as a snapshot is one's
+pub snapshot_read : (text : List ℕ) (v : SnapshotValue) → snapshot_of text ≡ Ok v → IsSnapshot v
+snapshot_read text v e =
+    let told = resumed None false text (resume_output None false v) (ap (resumed_of (resume_output None false)) e) in
+    subst IsSnapshot (ok_is told.0 v (sym (snapshot_again told.0 told.2) ∙ ap snapshot_of (sym told.1) ∙ e)) told.2
 
 -- ---- what stands last
 

@@ -1,6 +1,7 @@
 """Tries the wrong bodies of crates/*/wrong-bodies in batches, many in one check. NOT PROVED; it trusts what rt says of a check.
 
     dev/do wrong_bodies [--lanes N] [--folder NAME] [--log FILE] [CRATE ..]
+    dev/do wrong_bodies --moved CRATE/EDIT ..       # these went to must-fail, or away: takes them out of the record, if it is of today's texts
 
 A check with holes allowed goes on past a function that isn't proved, and takes it by its contract. So wrong bodies of different
 functions go into one copy of the crate, and one check tells of each function whether a goal of its own fails. Then its edit is
@@ -27,7 +28,7 @@ import tempfile
 import time
 
 from claims import Claims, is_claim, is_denied
-from edits import BATCHES, PARTS, ROOT, files_of, libraries, logic_in, read_edit, sum_of, with_lower, write_record
+from edits import BATCHES, PARTS, ROOT, files_of, libraries, logic_in, read_edit, strike, sum_of, with_lower, write_record
 from spec_words import Project
 
 TOKEN = re.compile(
@@ -333,13 +334,25 @@ def tried(crate, folder, logic, log):
     return {f"{crate}/{name}": kind for name, kind in given.items()}
 
 
+def struck(edits):
+    """Takes edits out of the records of their crates."""
+    faults = {crate: strike(crate, [name for it, name in edits if it == crate]) for crate in sorted({it for it, _ in edits})}
+    for crate, fault in faults.items():
+        if fault:
+            print(f"wrong_bodies: {crate}: {fault}", file=sys.stderr)
+    return 1 if any(faults.values()) else 0
+
+
 def main():
     parser = argparse.ArgumentParser(description=__doc__.split("\n")[0])
     parser.add_argument("--lanes", default=1, type=int, help="crates that are tried side by side; each takes 1 to 3 GB")
     parser.add_argument("--folder", default=BATCHES, help="the folder of edits; records are written for wrong-bodies alone")
     parser.add_argument("--log", default="/dev/null", help="a file for all that the checks say")
+    parser.add_argument("--moved", action="store_true", help="edits are named, as CRATE/EDIT, which went to must-fail or away; none is tried")
     parser.add_argument("crates", nargs="*", metavar="CRATE", help="all that have such edits, where none is named")
     arguments = parser.parse_args()
+    if arguments.moved:
+        return struck([it.split("/") for it in arguments.crates])
     logic = logic_in(subprocess.run(["rt", "version"], stdout=subprocess.PIPE, text=True, check=True).stdout)
     crates = arguments.crates or [it for it in libraries() if files_of(it, arguments.folder)]
     with open(arguments.log, "a", encoding="utf-8") as log, concurrent.futures.ThreadPoolExecutor(arguments.lanes) as pool:

@@ -7,6 +7,7 @@ meet; `rt must-fail` doesn't read it.
 import dataclasses
 import hashlib
 import re
+import subprocess
 
 from claims import denied
 from tree import ROOT
@@ -116,12 +117,23 @@ def with_lower(crate):
     return sorted(found)
 
 
-def sum_of(crate, logic):
-    """A checksum of what the verdicts on a crate's edits rest on: its text and those of the crates below, the edits, the logic."""
+def text_of_moved(crate, name):
+    """An edit that is no longer beside the others: as the gate's folder has it, or as the last commit had it."""
+    file = ROOT / "crates" / crate / GATE / f"{name}.edit"
+    if file.is_file():
+        return file.read_bytes()
+    return subprocess.run(["git", "-C", ROOT, "show", f"HEAD:crates/{crate}/{BATCHES}/{name}.edit"], stdout=subprocess.PIPE, check=True).stdout
+
+
+def sum_of(crate, logic, moved=()):
+    """A checksum of what the verdicts on a crate's edits rest on: its text and those of the crates below, the edits, the logic. The edits `moved` are
+    taken as if they were still beside the others."""
     files = [file for name in with_lower(crate) for part in PARTS for file in (ROOT / "crates" / name / part).rglob("*")]
+    texts = {file: None for file in [*files, *files_of(crate, BATCHES)] if file.is_file()}
+    texts |= {ROOT / "crates" / crate / BATCHES / f"{name}.edit": text_of_moved(crate, name) for name in moved}
     made = hashlib.sha256(logic.encode())
-    for file in sorted(it for it in [*files, *files_of(crate, BATCHES)] if it.is_file()):
-        made.update(f"\n{file.relative_to(ROOT)}\n".encode() + hashlib.sha256(file.read_bytes()).digest())
+    for file, text in sorted(texts.items()):
+        made.update(f"\n{file.relative_to(ROOT)}\n".encode() + hashlib.sha256(file.read_bytes() if text is None else text).digest())
     return made.hexdigest()
 
 
@@ -135,6 +147,16 @@ def write_record(crate, logic, verdicts):
     """Writes beside the edits which of them were refused, and of which texts that is said."""
     lines = [f"logic: {logic}", f"texts: {sum_of(crate, logic)}", *sorted(verdicts)]
     (ROOT / "crates" / crate / BATCHES / RECORD).write_text("".join(f"{it}\n" for it in lines))
+
+
+def strike(crate, moved):
+    """Takes edits that went to the folder of the gate, or away, out of the record: what was said of the others rests on none of them. Answers what is
+    wrong with the record, or None."""
+    logic, texts, *verdicts = (ROOT / "crates" / crate / BATCHES / RECORD).read_text().splitlines()
+    if texts != f"texts: {sum_of(crate, logic_in(logic), moved)}" or not set(moved) <= {it.partition(":")[0] for it in verdicts}:
+        return "its record isn't of today's texts and of these edits"
+    write_record(crate, logic_in(logic), [it for it in verdicts if it.partition(":")[0] not in moved])
+    return None
 
 
 def record_fault(crate):

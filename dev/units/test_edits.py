@@ -1,10 +1,11 @@
-"""Tests of dev/parts/edits.py: the law that an edit names by a line `refuted:`. NOT PROVED."""
+"""Tests of dev/parts/edits.py: the law that an edit names by a line `refuted:`, and records from which edits are struck. NOT PROVED."""
 
 import os
 import pathlib
 import tempfile
 import unittest
 
+import edits
 from edits import read_edit
 
 LAWS = """//! Laws.
@@ -63,3 +64,40 @@ class Refuted(unittest.TestCase):
     def test_what_is_no_law_is_a_fault(self):
         for name in ("laws::all_are_kept", "laws::lose", "laws::keep", "laws::none", "laws", "none_is_lost", "other::none_is_lost"):
             self.assertEqual(self.read(f"refuted: {name}\n{EDIT}").fault, f"there is no law {name} that denies something")
+
+
+class Struck(unittest.TestCase):
+    """A crate with two edits whose record says that both are refused."""
+
+    def setUp(self):
+        self.folder = tempfile.TemporaryDirectory()
+        self.addCleanup(self.folder.cleanup)
+        self.addCleanup(setattr, edits, "ROOT", edits.ROOT)
+        edits.ROOT = pathlib.Path(self.folder.name)
+        self.crate = edits.ROOT / "crates" / "a"
+        for name in ("src", "wrong-bodies", "must-fail"):
+            (self.crate / name).mkdir(parents=True)
+        (edits.ROOT / "crates.txt").write_text("a:\n")
+        (self.crate / "src" / "laws.rt").write_text(LAWS)
+        for name in ("one", "other"):
+            (self.crate / "wrong-bodies" / f"{name}.edit").write_text(EDIT)
+        edits.write_record("a", "0123", ["one: refused", "other: refused"])
+
+    def move(self, name):
+        os.rename(self.crate / "wrong-bodies" / f"{name}.edit", self.crate / "must-fail" / f"{name}.edit")
+
+    def test_an_edit_that_went_to_the_gate(self):
+        self.move("one")
+        self.assertIsNotNone(edits.record_fault("a"))
+        self.assertIsNone(edits.strike("a", ["one"]))
+        self.assertIsNone(edits.record_fault("a"))
+
+    def test_a_record_of_another_text(self):
+        self.move("one")
+        (self.crate / "src" / "laws.rt").write_text(LAWS + "\n")
+        self.assertIsNotNone(edits.strike("a", ["one"]))
+
+    def test_an_edit_that_the_record_lacks(self):
+        self.move("one")
+        (self.crate / "must-fail" / "third.edit").write_text(EDIT)
+        self.assertIsNotNone(edits.strike("a", ["one", "third"]))

@@ -3,6 +3,7 @@
 
 mod exit;
 mod help;
+pub mod laws;
 mod line;
 
 pub use exit::{Threading, do_alone, do_together, tell_no_job};

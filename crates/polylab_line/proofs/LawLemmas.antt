@@ -46,6 +46,7 @@ is_line f f' before line other g s e e' (inl all) =
     append_cancel_left before other line there
 is_line f f' before line other g s e e' (inr part) = let failed : f'.failed ≡ true = part.1 in let no = false≢true (sym g ∙ sym s ∙ failed) in cc
 
+-- the refusal for the number of workers is longer than any other, so it is told apart by its length
 number_length : length (pool_refusal BadWorkerCount) ≡ 30
 unfolding digits
 number_length = refl

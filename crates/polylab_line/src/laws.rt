@@ -13,9 +13,9 @@ ghost use Rattle.polylab_engine.specs.Refusals.{MayOfInput, TellsWant, pool_faul
 
 /// A run that ends with status 0 is not of two jobs that make different texts of the input.
 pub fn a_run_is_of_one_text()
-    ensures { (one other : Job) (r r' w w' f f' : Stream) (input before first second : List ℕ) → r.bytes ≡ Some input → w.bytes ≡ Some before
-        → job_outcome one input ≡ Ok first → job_outcome other input ≡ Ok second → (first ≡ second → ⊥)
-        → IsProgramRun one r r' w w' f f' 0 → IsProgramRun other r r' w w' f f' 0 → ⊥ }
+    ensures { (one other : Job) (r r' w w' f f' : Stream) (input before first second : List ℕ) → r.bytes ≡ Some input
+        → w.bytes ≡ Some before → job_outcome one input ≡ Ok first → job_outcome other input ≡ Ok second
+        → (first ≡ second → ⊥) → IsProgramRun one r r' w w' f f' 0 → IsProgramRun other r r' w w' f f' 0 → ⊥ }
 {}
 
 /// A search by a number of workers that may be is not refused for their number.

@@ -99,97 +99,66 @@ is_line (cut cs) = are_in_grid cs
 abbrev pub piece_of : Line → List (ℕ × List Coordinates)
 piece_of (piece need several mirrored names cs) = named_shapes (pieces_named need names) (kept_shape cs)
 piece_of (range mirrored names spare cs) = named_shapes (names ++ spare) (kept_shape cs)
-piece_of (box a b c) = []
-piece_of (cells optional cs) = []
-piece_of (cut cs) = []
+piece_of line = []
 
 -- the name of a piece that may be left out
 abbrev pub maybe_name_of : Line → List ℕ
 maybe_name_of (piece need several mirrored names cs) = names_if (is_maybe need) (pieces_named need names)
-maybe_name_of (range mirrored names spare cs) = []
-maybe_name_of (box a b c) = []
-maybe_name_of (cells optional cs) = []
-maybe_name_of (cut cs) = []
+maybe_name_of line = []
 
 -- the name of a piece that may be used any number of times
 abbrev pub any_name_of : Line → List ℕ
 any_name_of (piece need several mirrored names cs) = names_if (is_repeatable need) (pieces_named need names)
-any_name_of (range mirrored names spare cs) = []
-any_name_of (box a b c) = []
-any_name_of (cells optional cs) = []
-any_name_of (cut cs) = []
+any_name_of line = []
 
 -- the names of pieces that may be reflected
 abbrev pub mirrored_by : Line → List ℕ
 mirrored_by (piece need several mirrored names cs) = names_if mirrored (pieces_named need names)
 mirrored_by (range mirrored names spare cs) = names_if mirrored (names ++ spare)
-mirrored_by (box a b c) = []
-mirrored_by (cells optional cs) = []
-mirrored_by (cut cs) = []
+mirrored_by line = []
 
 -- the group of equal pieces, if there are two at least
 abbrev pub equal_by : Line → List (List ℕ)
 equal_by (piece need several mirrored names cs) = group_of (pieces_named need names)
 equal_by (range mirrored names spare cs) = group_of (names ++ spare)
-equal_by (box a b c) = []
-equal_by (cells optional cs) = []
-equal_by (cut cs) = []
+equal_by line = []
 
 -- the symbols by which copies are shown in turn, if there are two at least
 abbrev pub symbols_by : Line → List (List ℕ)
 symbols_by (piece need several mirrored names cs) = symbols_of need names
-symbols_by (range mirrored names spare cs) = []
-symbols_by (box a b c) = []
-symbols_by (cells optional cs) = []
-symbols_by (cut cs) = []
+symbols_by line = []
 
 -- the names of spare copies
 abbrev pub spare_by : Line → List ℕ
-spare_by (piece need several mirrored names cs) = []
 spare_by (range mirrored names spare cs) = spare
-spare_by (box a b c) = []
-spare_by (cells optional cs) = []
-spare_by (cut cs) = []
+spare_by line = []
 
 -- the symbols that a line takes
 abbrev pub taken_by : Line → List ℕ
 taken_by (piece need several mirrored names cs) = names
 taken_by (range mirrored names spare cs) = names ++ spare
-taken_by (box a b c) = []
-taken_by (cells optional cs) = []
-taken_by (cut cs) = []
+taken_by line = []
 
 -- whether it is a `box` line
 abbrev pub is_box : Line → Bool
-is_box (piece need several mirrored names cs) = false
-is_box (range mirrored names spare cs) = false
 is_box (box a b c) = true
-is_box (cells optional cs) = false
-is_box (cut cs) = false
+is_box line = false
 
 -- the cells of a `box` or `cells` line
 abbrev pub named_by : Line → List Coordinates
-named_by (piece need several mirrored names cs) = []
-named_by (range mirrored names spare cs) = []
 named_by (box a b c) = box_cells a b c
 named_by (cells optional cs) = cs
-named_by (cut cs) = []
+named_by line = []
 
 -- the cells of a `maybe cells` line
 abbrev pub maybe_by : Line → List Coordinates
-maybe_by (piece need several mirrored names cs) = []
-maybe_by (range mirrored names spare cs) = []
-maybe_by (box a b c) = []
 maybe_by (cells optional cs) = if optional then cs else []
-maybe_by (cut cs) = []
+maybe_by line = []
 
 -- the cells of a `cut` line
 abbrev pub cut_by : Line → List Coordinates
-cut_by (piece need several mirrored names cs) = []
-cut_by (range mirrored names spare cs) = []
-cut_by (box a b c) = []
-cut_by (cells optional cs) = []
 cut_by (cut cs) = cs
+cut_by line = []
 
 -- what lines say that are within the limits, alone and together
 pub record AreLines (lines : List Line) : Type 0 where

@@ -24,8 +24,8 @@ use Rattle.poly_place.proofs.PlacedLemmas.{has_shapes}
 use Rattle.poly_place.proofs.OrderLemmas.{cells_total}
 use Rattle.poly_place.proofs.DistinctLemmas.{in_from_name}
 use Rattle.poly_place.proofs.StandLemmas.{needed_single}
-use Rattle.poly_place.proofs.ChosenLemmas.{cover_packs}
-use Rattle.poly_distinct.proofs.ImagePackingLemmas.{in_from_among, among_from_in, in_image, from_image, tells, stays}
+use Rattle.poly_place.proofs.ChosenLemmas.{cover_packs, in_from_among, among_from_in}
+use Rattle.poly_distinct.proofs.ImagePackingLemmas.{in_image, from_image, tells, stays}
 use Rattle.poly_distinct.proofs.MovedCoverLemmas.{inside_of, moved_path, moved_alike}
 
 -- ---- the least of several

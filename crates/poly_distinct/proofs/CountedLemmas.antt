@@ -27,9 +27,9 @@ use Rattle.poly_place.proofs.OrderLemmas.{cells_total, cells_exact}
 use Rattle.poly_place.proofs.DistinctLemmas.{IsDistinct, distinct_rising}
 use Rattle.poly_place.proofs.StandLemmas.{same_group}
 use Rattle.poly_place.proofs.PackingLemmas.{one_cover}
-use Rattle.poly_place.proofs.ChosenLemmas.{cover_packs, cover_stands}
+use Rattle.poly_place.proofs.ChosenLemmas.{cover_packs, cover_stands, in_from_among, among_from_in}
 use Rattle.poly_place.proofs.SwapLemmas.{count_swaps_once}
-use Rattle.poly_distinct.proofs.ImagePackingLemmas.{in_from_among, among_from_in, in_image, from_image, tells, stays}
+use Rattle.poly_distinct.proofs.ImagePackingLemmas.{in_image, from_image, tells, stays}
 use Rattle.poly_distinct.proofs.MovedCoverLemmas.{inside_of, moved_path}
 use Rattle.poly_distinct.proofs.AnchorLemmas.{image_twice, anchor_in, anchor_once, goes_to_anchor, left_there, brings_least}
 use Rattle.poly_distinct.proofs.NewLemmas.{no_longer}

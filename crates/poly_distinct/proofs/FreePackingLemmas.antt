@@ -22,16 +22,17 @@ use Rattle.poly_place.specs.Forms.{IsKept, carrier}
 use Rattle.poly_place.proofs.PlacedLemmas.{has_shapes}
 use Rattle.poly_place.proofs.OrderLemmas.{cells_total, cells_exact}
 use Rattle.poly_place.proofs.PackingLemmas.{one_cover}
-use Rattle.poly_place.proofs.ChosenLemmas.{cover_packs, cover_stands}
+use Rattle.poly_place.proofs.ChosenLemmas.{cover_packs, cover_stands, in_from_among, among_from_in}
 use Rattle.poly_place.proofs.StandLemmas.{chosen_in, least_in}
 use Rattle.poly_place.proofs.ClassLemmas.{matched}
+use Rattle.poly_place.proofs.PartLemmas.{AreApart, one_part, part_some, same_part_of}
 use Rattle.poly_place.proofs.FormLemmas.{PartAlike}
 use Rattle.poly_place.proofs.CarryLemmas.{neutral_kept, neutral_stays}
 use Rattle.poly_distinct.specs.Distinct.{image_of, images_by, IsAnchor, AreAllowed, IsPath, is_least, cells_at}
 use Rattle.poly_distinct.specs.Free.{have_own_cells, carrier_count}
-use Rattle.poly_distinct.proofs.ImagePackingLemmas.{in_from_among, among_from_in, in_image, from_image, comes_from}
+use Rattle.poly_distinct.proofs.ImagePackingLemmas.{in_image, from_image, comes_from}
 use Rattle.poly_distinct.proofs.MovedCoverLemmas.{inside_of, moved_path}
-use Rattle.poly_distinct.proofs.LaidLemmas.{AreApart, LaysImages, one_part, part_some, same_part_of}
+use Rattle.poly_distinct.proofs.LaidLemmas.{LaysImages}
 use Rattle.poly_distinct.proofs.RestrictLemmas.{AreSame, in_has}
 use Rattle.poly_distinct.proofs.AnchorLemmas.{anchor_in}
 use Rattle.poly_distinct.proofs.CountedLemmas.{cells_are, cells_same, cells_moved, cells_inside}

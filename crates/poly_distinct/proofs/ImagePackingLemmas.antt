@@ -7,28 +7,19 @@ use Rattle.poly_cells.specs.Sets.{IsIn}
 use Rattle.poly_cells.specs.Shapes.{IsShape}
 use Rattle.poly_cells.specs.CellTests.{has_cell}
 use Rattle.poly_cells.proofs.SetLemmas.{in_map, in_from_map, in_from_order, in_to_order, in_order_rises}
-use Rattle.poly_cells.proofs.MemberLemmas.{some_passes, passes_some}
 use Rattle.poly_cells.proofs.CoordinateLemmas.{coordinates_total, coordinates_exact}
 use Rattle.poly_texts.specs.Puzzle.{PuzzleValue, IsPuzzle, names_of, is_needed, is_spare}
 use Rattle.poly_place.specs.declared.alike.Group.{Group}
 use Rattle.poly_place.specs.Packings.{ChoiceValue, is_any, must_fill, IsPlaced, IsPacking}
-use Rattle.poly_place.specs.Chosen.{is_among, same_choice}
+use Rattle.poly_place.specs.Chosen.{is_among}
 use Rattle.poly_place.specs.Swaps.{told_apart}
 use Rattle.poly_place.specs.ClassCount.{image_in}
 use Rattle.poly_place.specs.Forms.{IsKept}
 use Rattle.poly_distinct.specs.Distinct.{image_of, CarriesPieces, image_choice, image_choices}
 use Rattle.poly_place.proofs.PlacedLemmas.{has_shapes}
-use Rattle.poly_place.proofs.PackingLemmas.{same_choice_is, same_choice_itself}
+use Rattle.poly_place.proofs.ChosenLemmas.{in_from_among, among_from_in}
 use Rattle.poly_place.proofs.CarryLemmas.{kept_stays, kept_inverse, maps_at}
 use Rattle.poly_cells.proofs.CellTestLemmas.{in_from_has, has_from_in}
-
--- ---- choices of a list
-
-pub in_from_among : (cs : List ChoiceValue) (c : ChoiceValue) → is_among cs c ≡ true → IsIn c cs
-in_from_among cs c h = let d = some_passes (same_choice c) cs h in subst (λ (e : ChoiceValue). IsIn e cs) (sym (same_choice_is c d.0 d.2)) d.1
-
-pub among_from_in : (cs : List ChoiceValue) (c : ChoiceValue) → IsIn c cs → is_among cs c ≡ true
-among_from_in cs c i = passes_some (same_choice c) c cs i (same_choice_itself c)
 
 -- ---- a symmetry that is kept, on the region
 

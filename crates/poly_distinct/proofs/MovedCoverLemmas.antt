@@ -16,11 +16,12 @@ use Rattle.poly_place.specs.Forms.{IsKept}
 use Rattle.poly_distinct.specs.Distinct.{IsPath, IsMoved, CarriesPieces, image_choice, image_choices}
 use Rattle.poly_place.proofs.PlacedLemmas.{has_shapes}
 use Rattle.poly_place.proofs.PackingLemmas.{are_packings, one_packing}
-use Rattle.poly_place.proofs.ChosenLemmas.{cover_packs, cover_stands}
+use Rattle.poly_place.proofs.ChosenLemmas.{cover_packs, cover_stands, in_from_among, among_from_in}
 use Rattle.poly_place.proofs.SwapLemmas.{count_swaps_once}
 use Rattle.poly_place.proofs.ClassLemmas.{alike}
-use Rattle.poly_distinct.proofs.ImagePackingLemmas.{in_from_among, among_from_in, images_pack}
-use Rattle.poly_distinct.proofs.LaidLemmas.{AreApart, parts_alike}
+use Rattle.poly_distinct.proofs.ImagePackingLemmas.{images_pack}
+use Rattle.poly_place.proofs.PartLemmas.{AreApart}
+use Rattle.poly_distinct.proofs.LaidLemmas.{parts_alike}
 
 module _ (p : PuzzleValue) (z : IsPuzzle p) where
   -- a path for each packing

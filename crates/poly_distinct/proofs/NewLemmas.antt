@@ -3,64 +3,22 @@ use Rattle.std.proofs.Common.{◌≡◌, ℕ, zero, suc, ◌+◌, ◌<◌, ◌�
 use Rattle.std.specs.List.{list_any}
 use Rattle.std.proofs.lemmas.Bool.{cases_Bool, both_ways, cond-true, cond-false}
 use Rattle.std.proofs.lemmas.List.{map-append}
-use Rattle.poly_cells.specs.Coordinates.{Coordinates}
 use Rattle.poly_cells.specs.Sets.{IsIn}
 use Rattle.poly_cells.specs.Shapes.{IsShape}
 use Rattle.poly_cells.proofs.SetLemmas.{in_append_cases, in_append_left, in_append_right}
 use Rattle.poly_cells.proofs.MemberLemmas.{some_passes, passes_some}
 use Rattle.poly_texts.specs.Puzzle.{PuzzleValue, IsPuzzle}
 use Rattle.poly_place.specs.declared.alike.Group.{Group}
-use Rattle.poly_place.specs.Packings.{ChoiceValue}
 use Rattle.poly_place.specs.Chosen.{PackingValue, packing_value, chosen_by}
-use Rattle.poly_place.specs.Classes.{part_at, AreAlike, IsClassCount}
-use Rattle.poly_place.specs.ClassCount.{image_in, are_alike, count_new, class_count}
+use Rattle.poly_place.specs.Classes.{AreAlike, IsClassCount}
+use Rattle.poly_place.specs.ClassCount.{are_alike, count_new, class_count}
 use Rattle.poly_distinct.specs.Distinct.{IsPartOf, new_from, are_like_paths, distinct_paths, AreUnlike, AreOneOfEach, MeetAll}
 use Rattle.poly_place.proofs.PlacedLemmas.{has_shapes}
-use Rattle.poly_place.proofs.CarryLemmas.{kept_stays, kept_composed, kept_inverse, neutral_kept, neutral_stays}
-use Rattle.poly_place.proofs.ClassLemmas.{AreMatched, matched, alike}
+use Rattle.poly_place.proofs.ClassLemmas.{matched, alike, matched_itself, matched_on, matched_back}
 use Rattle.poly_place.proofs.ClassCountLemmas.{tests_alike, puzzle_classes}
 use Rattle.poly_place.proofs.DistinctLemmas.{IsDistinct}
 
 -- ---- likeness is an equivalence
-
-module _ (group : Group) (vs ms : List Coordinates) (s : IsShape vs) where
-  matched_itself : (cs : List ChoiceValue) → AreMatched group vs ms cs cs
-  matched_itself cs = (
-    0,
-    neutral_kept group vs ms s,
-    record {
-      empty = λ v i. ap (λ u. part_at cs u == 0) (sym (neutral_stays vs s v i));
-      parts = λ v w i j. ap₂ (λ u t. part_at cs u == part_at cs t) (sym (neutral_stays vs s v i)) (sym (neutral_stays vs s w j));
-    },
-  )
-
-  matched_on : (cs ds es : List ChoiceValue) → AreMatched group vs ms cs ds → AreMatched group vs ms ds es → AreMatched group vs ms cs es
-  matched_on cs ds es a b =
-      let c = kept_composed group vs ms b.0 a.0 s b.1 a.1 in
-      let inside = kept_stays group vs ms a.0 s a.1 in (
-        c.0,
-        c.1,
-        record {
-          empty = λ v i. a.2.empty v i ∙ b.2.empty (image_in vs a.0 v) (inside v i) ∙ ap (λ u. part_at es u == 0) (sym (c.2 v i));
-          parts = λ v w i j.
-              a.2.parts v w i j ∙ b.2.parts (image_in vs a.0 v) (image_in vs a.0 w) (inside v i) (inside w j)
-              ∙ ap₂ (λ u t. part_at es u == part_at es t) (sym (c.2 v i)) (sym (c.2 w j));
-        },
-      )
-
-  matched_back : (cs ds : List ChoiceValue) → AreMatched group vs ms cs ds → AreMatched group vs ms ds cs
-  matched_back cs ds a =
-      let c = kept_inverse group vs ms a.0 s a.1 in
-      let inside = kept_stays group vs ms c.0 s c.1 in (
-        c.0,
-        c.1,
-        record {
-          empty = λ v i. ap (λ u. part_at ds u == 0) (sym (c.2 v i)) ∙ sym (a.2.empty (image_in vs c.0 v) (inside v i));
-          parts = λ v w i j.
-              ap₂ (λ u t. part_at ds u == part_at ds t) (sym (c.2 v i)) (sym (c.2 w j))
-              ∙ sym (a.2.parts (image_in vs c.0 v) (image_in vs c.0 w) (inside v i) (inside w j));
-        },
-      )
 
 -- the packings of two paths are alike
 abbrev pub AreLikePaths : PuzzleValue → Group → List ℕ → List ℕ → Type 0

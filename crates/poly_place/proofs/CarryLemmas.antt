@@ -52,21 +52,21 @@ one_after a b c is d e p =
     ∙ ap (translated (translated d (sent_by a e))) (sym (is p))
 
 -- the translation back
-abbrev minus : Point → Point
+abbrev pub minus : Point → Point
 minus d = point_at (neg_ℤ d.x) (neg_ℤ d.y) (neg_ℤ d.z)
 
 taken_back : (d p : Point) → translated (minus d) (translated d p) ≡ p
 taken_back d p = same_point _ _ _ _ _ _ (omega (arith, ints)) (omega (arith, ints)) (omega (arith, ints))
 
-undone : (n c : ℕ) → IsComposed c n 0 → (d p : Point) → translated (sent_by c (minus d)) (sent_by c (translated d (sent_by n p))) ≡ p
+pub undone : (n c : ℕ) → IsComposed c n 0 → (d p : Point) → translated (sent_by c (minus d)) (sent_by c (translated d (sent_by n p))) ≡ p
 undone n c is d p =
     sym (sent_sum (matrix c) (minus d) (translated d (sent_by n p)))
     ∙ ap (sent_by c) (taken_back d (sent_by n p))
     ∙ sym (is p)
     ∙ neutral p
 
-image_composed : (a b c : ℕ) (d e : Point) (vs : List Coordinates) → IsComposed a b c → IsImage a d vs vs → IsImage b e vs vs → IsImage c (translated d (sent_by a e)) vs vs
-image_composed a b c d e vs is first second = record {
+pub image_composed : (a b c : ℕ) (d e : Point) (us vs ws : List Coordinates) → IsComposed a b c → IsImage a d vs ws → IsImage b e us vs → IsImage c (translated d (sent_by a e)) us ws
+image_composed a b c d e us vs ws is first second = record {
   onto = λ w i.
       let u = first.onto w i in
       let v = second.onto u.0 u.1 in
@@ -77,20 +77,20 @@ image_composed a b c d e vs is first second = record {
       (w.0, w.1, w.2 ∙ ap (λ p. translated d (sent_by a p)) u.2 ∙ one_after a b c is d e (point v));
 }
 
-image_undone : (n c : ℕ) (d : Point) (vs : List Coordinates) → IsComposed c n 0 → IsImage n d vs vs → IsImage c (sent_by c (minus d)) vs vs
-image_undone n c d vs is image = record {
+pub image_undone : (n c : ℕ) (d : Point) (vs ws : List Coordinates) → IsComposed c n 0 → IsImage n d vs ws → IsImage c (sent_by c (minus d)) ws vs
+image_undone n c d vs ws is image = record {
   onto = λ w i. let v = image.into w i in (v.0, v.1, sym (ap (λ p. translated (sent_by c (minus d)) (sent_by c p)) v.2 ∙ undone n c is d (point w)));
   into = λ v i. let w = image.onto v i in (w.0, w.1, sym (ap (λ p. translated (sent_by c (minus d)) (sent_by c p)) w.2 ∙ undone n c is d (point w.0)));
 }
 
-nothing : Point
+pub nothing : Point
 nothing = point_at (pos 0) (pos 0) (pos 0)
 
 at_rest_there : (p : Point) → translated nothing (sent_by 0 p) ≡ p
 unfolding nothing
 at_rest_there p = ap (translated nothing) (neutral p) ∙ same_point _ _ _ _ _ _ (omega (arith, ints)) (omega (arith, ints)) (omega (arith, ints))
 
-image_neutral : (vs : List Coordinates) → IsImage 0 nothing vs vs
+pub image_neutral : (vs : List Coordinates) → IsImage 0 nothing vs vs
 image_neutral vs = record {
   onto = λ w i. (w, i, sym (at_rest_there (point w)));
   into = λ v i. (v, i, sym (at_rest_there (point v)));
@@ -203,7 +203,7 @@ neutral_kept group vs ms s = record {
 composed_image : (vs : List Coordinates) (a b c : ℕ) → IsShape vs → IsComposed a b c → (p : HasSymmetry a vs) → (q : HasSymmetry b vs) → (v : Coordinates) → IsIn v vs
     → image_in vs c v ≡ image_in vs a (image_in vs b v)
 composed_image vs a b c s is p q v i =
-    sym (image_is vs c s (translated p.0 (sent_by a q.0)) (image_composed a b c p.0 q.0 vs is p.1 q.1) v (image_in vs a (image_in vs b v)) i
+    sym (image_is vs c s (translated p.0 (sent_by a q.0)) (image_composed a b c p.0 q.0 vs vs vs is p.1 q.1) v (image_in vs a (image_in vs b v)) i
     (image_point vs a s p.0 p.1 (image_in vs b v) (image_stays vs b s q v i)
     ∙ ap (λ x. translated p.0 (sent_by a x)) (image_point vs b s q.0 q.1 v i)
     ∙ one_after a b c is p.0 q.0 (point v)))
@@ -217,7 +217,7 @@ kept_composed group vs ms a b s p q =
       record {
         limit = composed_in a b p.limit q.limit;
         member = composed_member group a b p.limit q.limit p.member q.member;
-        symmetry = (translated p.symmetry.0 (sent_by a q.symmetry.0), image_composed a b (composed a b) p.symmetry.0 q.symmetry.0 vs is p.symmetry.1 q.symmetry.1);
+        symmetry = (translated p.symmetry.0 (sent_by a q.symmetry.0), image_composed a b (composed a b) p.symmetry.0 q.symmetry.0 vs vs vs is p.symmetry.1 q.symmetry.1);
         optional = maps_are (has_cell ms) (image_in vs (composed a b)) (has_cell ms) vs
             (λ v i. ap (has_cell ms) (same v i) ∙ kept_marks group vs ms a p (image_in vs b v) (kept_stays group vs ms b s q v i) ∙ kept_marks group vs ms b q v i);
       },
@@ -230,7 +230,7 @@ kept_inverse group vs ms n s k =
     let c = inverse_of n in
     let is = undone_before n k.limit in
     let d = k.symmetry.0 in
-    let image = image_undone n c d vs is k.symmetry.1 in
+    let image = image_undone n c d vs vs is k.symmetry.1 in
     let back : (v : Coordinates) → IsIn v vs → image_in vs n (image_in vs c v) ≡ v = λ v i.
     let w = k.symmetry.1.onto v i in
     let there : w.0 ≡ image_in vs c v = image_is vs c s (sent_by c (minus d)) image v w.0 i (sym (ap (λ p. translated (sent_by c (minus d)) (sent_by c p)) w.2 ∙ undone n c is d (point w.0))) in

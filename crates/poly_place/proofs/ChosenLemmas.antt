@@ -1,5 +1,5 @@
 -- The packing that is made of an exact cover is one, and stands for it.
-use Rattle.std.proofs.Common.{◌≡◌, ℕ, ◌≤◌, List, get_or, Bool, nat_le, sym, ap, subst, ◌∙◌, nat_cmp, IsPermutation, IsSorted}
+use Rattle.std.proofs.Common.{◌≡◌, ℕ, ◌≤◌, List, get_or, Bool, true, nat_le, sym, ap, subst, ◌∙◌, nat_cmp, IsPermutation, IsSorted}
 use Rattle.std.proofs.lemmas.Bool.{leb-true, le-leb}
 use Rattle.std.specs.List.{dedup}
 use Rattle.std.proofs.lemmas.Map.Lookups.{exact_unsigned}
@@ -12,7 +12,7 @@ use Rattle.poly_cells.proofs.SortLemmas.{after_sort}
 use Rattle.poly_texts.specs.Puzzle.{PuzzleValue, IsPuzzle}
 use Rattle.shared_words.specs.Lists.{has}
 use Rattle.cover_problem.specs.ExactCover.{IsExactCover}
-use Rattle.poly_place.specs.Packings.{IsPacking, SetStandsFor, choice_at, laying_count, packing_problem}
+use Rattle.poly_place.specs.Packings.{ChoiceValue, IsPacking, SetStandsFor, choice_at, laying_count, packing_problem}
 use Rattle.poly_place.specs.Chosen.{same_choice, is_among, ArePositive, laying, chosen_by}
 use Rattle.poly_place.proofs.DistinctLemmas.{in_from_name, name_from_in}
 use Rattle.poly_place.proofs.PackingLemmas.{same_choice_is, same_choice_itself, count_back, stands_from, are_packings}
@@ -21,6 +21,16 @@ use Rattle.poly_cells.proofs.MemberLemmas.{some_passes, passes_some, in_filter, 
 
 pub nat_exact : IsExact nat_cmp
 nat_exact m n h = exact_unsigned m n h
+
+-- ---- choices of a list
+
+pub in_from_among : (cs : List ChoiceValue) (c : ChoiceValue) → is_among cs c ≡ true → IsIn c cs
+in_from_among cs c h = let d = some_passes (same_choice c) cs h in subst (λ (e : ChoiceValue). IsIn e cs) (sym (same_choice_is c d.0 d.2)) d.1
+
+pub among_from_in : (cs : List ChoiceValue) (c : ChoiceValue) → IsIn c cs → is_among cs c ≡ true
+among_from_in cs c i = passes_some (same_choice c) c cs i (same_choice_itself c)
+
+-- ---- the choices of options
 
 -- the numbers of options that lay a piece
 abbrev lays : PuzzleValue → ℕ → Bool

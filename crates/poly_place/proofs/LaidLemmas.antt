@@ -66,10 +66,10 @@ pub record IsLaid (p : PuzzleValue) (chosen : ChoiceValue → Bool) : Type 0 whe
   pub filled : (v : Coordinates) → must_fill p v ≡ true → (c : ChoiceValue) × (chosen c ≡ true) × IsIn v c.cells
   pub apart : (v : Coordinates) (c d : ChoiceValue) → chosen c ≡ true → chosen d ≡ true → IsIn v c.cells → IsIn v d.cells → c ≡ d
 
-placed_on : (p : PuzzleValue) (c : ChoiceValue) → IsPlaced (told_apart p) c → IsPlaced p c
+pub placed_on : (p : PuzzleValue) (c : ChoiceValue) → IsPlaced (told_apart p) c → IsPlaced p c
 placed_on p c h = record { piece = h.piece; named = h.named; rises = h.rises; placed = h.placed; useful = h.useful }
 
-placed_apart : (p : PuzzleValue) (c : ChoiceValue) → IsPlaced p c → IsPlaced (told_apart p) c
+pub placed_apart : (p : PuzzleValue) (c : ChoiceValue) → IsPlaced p c → IsPlaced (told_apart p) c
 placed_apart p c h = record { piece = h.piece; named = h.named; rises = h.rises; placed = h.placed; useful = h.useful }
 
 pub laid_from : (p : PuzzleValue) (chosen : ChoiceValue → Bool) → IsPacking p chosen → IsLaid p chosen

@@ -23,6 +23,9 @@ pub mod LaidLemmas
 pub mod OrderedLemmas
 pub mod SwapLemmas
 pub mod RangeLemmas
+pub mod UnlikeLemmas
+pub mod EndLemmas
+pub mod SumLemmas
 pub mod PlainLemmas
 pub mod NodeLemmas
 pub mod ChosenLemmas
@@ -48,6 +51,11 @@ pub mod KeyLemmas
 pub mod CarryLemmas
 pub mod ClassLemmas
 pub mod ClassCountLemmas
+pub mod PartLemmas
+pub mod LabelledLemmas
+pub mod ByNameLemmas
 pub mod LoopLemmas
 pub mod ClassExamples
 pub mod DominoExamples
+pub mod CountExamples
+pub mod LabelledExamples

@@ -13,7 +13,7 @@ use Rattle.poly_place.specs.Packings.{every_choice, leavings, thing_item, tree_l
 use Rattle.poly_place.specs.Chosen.{chosen_by}
 
 -- the pieces A and B of one cell each, for the region 0 0 0, 1 0 0: B may be left out, and 1 0 0 may stay empty
-abbrev pair : PuzzleValue
+abbrev pub pair : PuzzleValue
 pair = record {
   pieces = (65, coordinates 0 0 0 ∷ []) ∷ (66, coordinates 0 0 0 ∷ []) ∷ [];
   maybe_pieces = 66 ∷ [];
@@ -50,14 +50,14 @@ its_packing = refl
 
 -- ---- equal pieces
 
-abbrev one_cell : List Coordinates
+abbrev pub one_cell : List Coordinates
 one_cell = coordinates 0 0 0 ∷ []
 
-abbrev row_of_two : List Coordinates
+abbrev pub row_of_two : List Coordinates
 row_of_two = coordinates 0 0 0 ∷ coordinates 1 0 0 ∷ []
 
 -- the equal pieces A and B of one cell each, for the region 0 0 0, 1 0 0
-abbrev equals : PuzzleValue
+abbrev pub equals : PuzzleValue
 equals = record {
   pieces = (65, one_cell) ∷ (66, one_cell) ∷ [];
   maybe_pieces = [];
@@ -93,7 +93,7 @@ its_problem = refl
 within : (x y z : ℕ) → x ≤ 31 → y ≤ 31 → z ≤ 31 → IsInGrid (coordinates x y z)
 within x y z a b c = record { x_in = a; y_in = b; z_in = c }
 
-one_limits : (v : Coordinates) → IsIn v one_cell → IsInGrid v
+pub one_limits : (v : Coordinates) → IsIn v one_cell → IsInGrid v
 one_limits v (inl e) = subst IsInGrid (sym e) (within 0 0 0 (omega arith) (omega arith) (omega arith))
 one_limits v (inr f) = absurd f
 
@@ -102,26 +102,26 @@ two_limits v (inl e) = subst IsInGrid (sym e) (within 0 0 0 (omega arith) (omega
 two_limits v (inr (inl e)) = subst IsInGrid (sym e) (within 1 0 0 (omega arith) (omega arith) (omega arith))
 two_limits v (inr (inr f)) = absurd f
 
-one_rises : IsStrictlySortedBy coordinates_cmp one_cell
+pub one_rises : IsStrictlySortedBy coordinates_cmp one_cell
 unfolding IsStrictlySortedBy
 one_rises = (tt, tt)
 
-two_rise : IsStrictlySortedBy coordinates_cmp row_of_two
+pub two_rise : IsStrictlySortedBy coordinates_cmp row_of_two
 unfolding IsStrictlySortedBy
 two_rise = ((refl, tt), (tt, tt))
 
-none_rise : IsStrictlySortedBy coordinates_cmp []
+pub none_rise : IsStrictlySortedBy coordinates_cmp []
 unfolding IsStrictlySortedBy
 none_rise = tt
 
-is_a_piece : IsPiece one_cell
+pub is_a_piece : IsPiece one_cell
 is_a_piece = record {
   shape = record { some = omega arith; rises = one_rises; limits = one_limits };
   few = omega arith;
   origin = record { x = (coordinates 0 0 0, inl refl, refl); y = (coordinates 0 0 0, inl refl, refl); z = (coordinates 0 0 0, inl refl, refl) };
 }
 
-are_pieces : ArePieces equals.pieces
+pub are_pieces : ArePieces equals.pieces
 are_pieces q (inl e) = subst (λ (r : ℕ × List Coordinates). IsPiece r.1) (sym e) is_a_piece
 are_pieces q (inr (inl e)) = subst (λ (r : ℕ × List Coordinates). IsPiece r.1) (sym e) is_a_piece
 are_pieces q (inr (inr f)) = absurd f
@@ -148,11 +148,11 @@ one_shape m n (inr (inr e)) j = absurd e
 one_shape m n (inl e) (inr (inr f)) = absurd f
 one_shape m n (inr (inl e)) (inr (inr f)) = absurd f
 
-equal_shapes : (group : List ℕ) (m n : ℕ) → IsIn group equals.equal → IsIn m group → IsIn n group → IsOneShape equals m n
+pub equal_shapes : (group : List ℕ) (m n : ℕ) → IsIn group equals.equal → IsIn m group → IsIn n group → IsOneShape equals m n
 equal_shapes group m n (inl e) i j = one_shape m n (subst (λ (g : List ℕ). IsIn m g) e i) (subst (λ (g : List ℕ). IsIn n g) e j)
 equal_shapes group m n (inr f) i j = absurd f
 
-is_a_puzzle : IsPuzzle equals
+pub is_a_puzzle : IsPuzzle equals
 is_a_puzzle = record {
   named = refl;
   new = refl;

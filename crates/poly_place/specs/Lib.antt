@@ -14,5 +14,7 @@ pub mod Listing
 pub mod Faults
 pub mod Classes
 pub mod ClassCount
+pub mod Counts
+pub mod Labelled
 pub mod Forms
 pub mod FormTables

@@ -2,11 +2,13 @@
 ghost use Rattle.poly_place.specs.Placements.{ListsPlacements};
 ghost use Rattle.poly_place.specs.Packings.{CoversArePackings, PackingsHaveRoom, PuzzlesHaveProblems};
 ghost use Rattle.poly_place.specs.Ranges.{RangesAreSums, SurePuzzlesStay};
+ghost use Rattle.poly_place.specs.Counts.{CountsAreOne, CoversAreCounted, EndsAreListed, RangesAddUp};
 ghost use Rattle.poly_place.specs.Swaps.{SwapsCountOnce};
 ghost use Rattle.poly_place.specs.Volume.{VolumeForces};
 ghost use Rattle.poly_place.specs.Plain.{PlainStay};
 ghost use Rattle.poly_place.specs.Turns.{GreaterIsShared};
 ghost use Rattle.poly_place.specs.ClassCount.{AlikeIsTested, ClassesAreCounted};
+ghost use Rattle.poly_place.specs.Labelled.{AlikeThenSwaps, AlikeByNameThenSwaps, ClassesAreLabelled, ClassesAreLabelledByName};
 
 /// The list of placements of a shape in another, by any symmetries, has exactly its placements, each once, in order.
 pub fn placements_are_listed()
@@ -32,6 +34,15 @@ pub fn swaps_count_once()
 /// The packings of a puzzle with spare copies are those of the puzzles where the numbers of copies are fixed, each of exactly one.
 pub fn ranges_are_sums()
     ensures { RangesAreSums }
+{}
+
+/// A puzzle has one number of packings, that of its problem's exact covers. With spare copies it is the sum of those of the puzzles where
+/// the numbers of copies are fixed, over all ways to leave out spare copies.
+pub fn ranges_add_up()
+    ensures one { CountsAreOne }
+    ensures covers { CoversAreCounted }
+    ensures ways { EndsAreListed }
+    ensures sums { RangesAddUp }
 {}
 
 /// A puzzle without spare copies has the options that lay a piece, and no others.
@@ -67,4 +78,14 @@ pub fn greater_is_shared()
 pub fn classes_are_counted()
     ensures tests { AlikeIsTested }
     ensures counts { ClassesAreCounted }
+{}
+
+/// The packings of a puzzle with equal pieces have as many classes as those in which all pieces are told apart, where symmetries of the
+/// region, and then equal pieces that change places, carry some onto others. If other pieces differ, the symmetries may be those that carry
+/// each piece onto the piece with its name.
+pub fn classes_are_labelled()
+    ensures alike { AlikeThenSwaps }
+    ensures classes { ClassesAreLabelled }
+    ensures named { AlikeByNameThenSwaps }
+    ensures named_classes { ClassesAreLabelledByName }
 {}

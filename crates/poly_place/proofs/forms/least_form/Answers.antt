@@ -1,4 +1,4 @@
-use Rattle.std.proofs.Common.{◌≡◌, ℕ, ◌<◌, List, slice_index, vec_items, sym, ap, subst, ◌∙◌}
+use Rattle.std.proofs.Common.{◌≡◌, ℕ, ◌<◌, slice_index, vec_items, sym, ap, subst, ◌∙◌}
 use Rattle.poly_cells.specs.Sets.{IsIn}
 use Rattle.poly_cells.proofs.SetLemmas.{in_at, in_map, in_from_map}
 use Rattle.poly_place.specs.Forms.{first_form, carried, lesser}

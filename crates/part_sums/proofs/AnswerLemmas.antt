@@ -3,7 +3,7 @@ use Rattle.std.proofs.Common.{◌≡◌, ℕ, zero, suc, ◌-◌, ◌<◌, ◌==
 use Rattle.std.specs.Prelude.{bytes_eq}
 use Rattle.std.specs.List.{list_all}
 use Rattle.std.specs.Cmp.Lexicographic.{bytes_decides}
-use Rattle.std.proofs.lemmas.Bool.{and_parts, and_from, or_right, eqb-true, eqb-false, ne_eqb, lt-ltb, ltb-true}
+use Rattle.std.proofs.lemmas.Bool.{and_parts, and_from, or_right, eqb-true, eq-eqb, eqb-false, ne_eqb, lt-ltb, ltb-true}
 use Rattle.std.proofs.Math.Bool.{or-false}
 use Rattle.text_lines.specs.Lines.{words_of, is_empty}
 use Rattle.text_lines.specs.Numbers.{is_decimal, value_after}
@@ -15,13 +15,15 @@ use Rattle.text_lines.proofs.WritingLemmas.{spaced_words}
 use Rattle.cover_counts.specs.Digits.{numeral}
 use Rattle.x_snapshot.specs.declared.fault.SnapshotFault.{SnapshotFault}
 use Rattle.x_snapshot.specs.Reader.{first_line, only}
+use Rattle.x_snapshot.specs.Snapshot.{SnapshotValue}
 use Rattle.x_snapshot.proofs.ReadLemmas.{line_back}
 use Rattle.x_snapshot.proofs.BackLemmas.{only_is}
 use Rattle.x_snapshot.proofs.LineAgain.{line_again}
 use Rattle.part_sums.specs.declared.fault.JoinFault.{JoinFault}
-use Rattle.part_sums.specs.declared.fault.JoinFault.TheVariants.{BadAnswer, TooLong, Truncated}
-use Rattle.part_sums.specs.Answers.{CountsValue, counts_with, count_line, levels_line, answer_lines, is_short, IsAnswer}
-use Rattle.part_sums.specs.Reading.{line_from, words_behind, key_words, keyed_words, number_of_word, number_of_only, with_number, numbers_after, last_number, are_levels, levels_from, keyed_number, levels_in, past_end_line, answer_in}
+use Rattle.part_sums.specs.declared.fault.JoinFault.TheVariants.{BadAnswer, TooLong, Truncated, BadNumbers}
+use Rattle.part_sums.specs.Answers.{CountsValue, counts_with, count_line, levels_line, answer_lines, is_short, IsAnswer, HasNumbersOf, has_numbers_of}
+use Rattle.part_sums.specs.Parts.{last_state}
+use Rattle.part_sums.specs.Reading.{line_from, words_behind, key_words, keyed_words, number_of_word, number_of_only, with_number, numbers_after, last_number, are_levels, levels_from, keyed_number, levels_in, past_end_line, answer_in, part_answer_in}
 use Rattle.part_sums.proofs.NumberLemmas.{some_levels, numeral_value, numeral_decimal, decimal_numeral, numeral_is_word}
 
 -- *a line*
@@ -277,6 +279,23 @@ answer_again c rest i =
     let b = number_in_again (codes "steps") c.steps (third ++ (last ++ rest)) refl i.steps in
     let d = levels_in_again c.levels (last ++ rest) i.levels i.last in
     ap answer_in (sym (four first second third last rest)) ∙ rw (a, b, d, end_in_again rest) refl
+
+-- *the counts of a part*
+
+pub part_answer_back : (part : SnapshotValue) (text : List ℕ) (r : CountsValue × List ℕ) → part_answer_in part text ≡ Ok r → (answer_in text ≡ Ok r) × HasNumbersOf part.state (last_state part) r.0
+unfolding part_answer_in
+part_answer_back part text r h =
+    let a = bind_ok (answer_in text) (λ answer. cond (has_numbers_of part.state (last_state part) answer.0) (Ok answer) (Err BadNumbers)) r h in
+    let g = granted (has_numbers_of part.state (last_state part) a.0.0) BadNumbers (Ok a.0) r a.2 in
+    let same : a.0 ≡ r = ok_is a.0 r g.1 in
+    (a.1 ∙ ap found same, subst (λ (s : CountsValue × List ℕ). HasNumbersOf part.state (last_state part) s.0) same (eqb-true _ _ g.0))
+  where
+    found : CountsValue × List ℕ → Result (CountsValue × List ℕ) JoinFault
+    found s = Ok s
+
+pub part_answer_again : (part : SnapshotValue) (c : CountsValue) (rest : List ℕ) → IsAnswer c → HasNumbersOf part.state (last_state part) c → part_answer_in part (text_of (answer_lines c) ++ rest) ≡ Ok (c, rest)
+unfolding part_answer_in
+part_answer_again part c rest i n = rw (answer_again c rest i, eq-eqb _ _ n) refl
 
 -- *an answer says one count*
 

@@ -25,7 +25,7 @@ use Rattle.part_sums.specs.declared.fault.JoinFault.TheVariants.{Gap, Overlap, T
 use Rattle.part_sums.specs.declared.total.Counted.{Counted}
 use Rattle.part_sums.specs.Answers.{no_counts, both_counts, sum_lines}
 use Rattle.part_sums.specs.Parts.{CountedPart, IsJoined, head_text, last_state, sum_text}
-use Rattle.part_sums.specs.Reading.{whole_in, tail_in, answer_in, line_of}
+use Rattle.part_sums.specs.Reading.{whole_in, tail_in, part_answer_in, line_of}
 use Rattle.part_sums.specs.Refusals.{IsMisplaced}
 use Rattle.part_sums.specs.Taking.{JoiningValue, joining_with, IsPartTaken, IsTakenRefused, AreTaken, AllTaken, IsOneRefused, IsEndRefused}
 use Rattle.part_sums.specs.Joining.{on_line, are_at_one_place, beginning_found, part_found, parts_within, parts_found, end_found, join_of}
@@ -226,9 +226,9 @@ module _ (v : SnapshotValue) (g : IsSnapshot v) (text : List ℕ) where
   part_back : (old : JoiningValue) (rest : List ℕ) (r : JoiningValue × List ℕ) → Fit v old → part_found v text old rest ≡ Ok r → IsPartTaken (head_text v) old rest r.0 r.1
   unfolding part_found
   part_back old rest r f h =
-      let a = bind_ok (on_line (line_of text rest) (tail_in (head_text v) rest)) (λ part. on_line (line_of text rest) (beginning_found v.problem old.before old.here part.0.state) >>= λ place. on_line (line_of text part.1) (answer_in part.1) >>= λ answer. Ok (joining_with part.0.state (last_state part.0) (both_counts old.counts answer.0), answer.1)) r h in
-      let b = bind_ok (on_line (line_of text rest) (beginning_found v.problem old.before old.here a.0.0.state)) (λ place. on_line (line_of text a.0.1) (answer_in a.0.1) >>= λ answer. Ok (joining_with a.0.0.state (last_state a.0.0) (both_counts old.counts answer.0), answer.1)) r a.2 in
-      let c = bind_ok (on_line (line_of text a.0.1) (answer_in a.0.1)) (λ answer. Ok (joining_with a.0.0.state (last_state a.0.0) (both_counts old.counts answer.0), answer.1)) r b.2 in
+      let a = bind_ok (on_line (line_of text rest) (tail_in (head_text v) rest)) (λ part. on_line (line_of text rest) (beginning_found v.problem old.before old.here part.0.state) >>= λ place. on_line (line_of text part.1) (part_answer_in part.0 part.1) >>= λ answer. Ok (joining_with part.0.state (last_state part.0) (both_counts old.counts answer.0), answer.1)) r h in
+      let b = bind_ok (on_line (line_of text rest) (beginning_found v.problem old.before old.here a.0.0.state)) (λ place. on_line (line_of text a.0.1) (part_answer_in a.0.0 a.0.1) >>= λ answer. Ok (joining_with a.0.0.state (last_state a.0.0) (both_counts old.counts answer.0), answer.1)) r a.2 in
+      let c = bind_ok (on_line (line_of text a.0.1) (part_answer_in a.0.0 a.0.1)) (λ answer. Ok (joining_with a.0.0.state (last_state a.0.0) (both_counts old.counts answer.0), answer.1)) r b.2 in
       let tail = on_line_back (line_of text rest) (tail_in (head_text v) rest) a.0 a.1 in
       let t = tail_back v g rest a.0 tail in
       let place = place_back v.problem old.before old.here a.0.0.state b.0 f.here (state_fits v.problem a.0.0 t.snapshot t.problem) (on_line_back (line_of text rest) (beginning_found v.problem old.before old.here a.0.0.state) b.0 b.1) in
@@ -237,7 +237,7 @@ module _ (v : SnapshotValue) (g : IsSnapshot v) (text : List ℕ) where
         answer = a.0.1;
         counts = c.0.0;
         is_next = record { tail = tail; place = λ p k l. place };
-        read = on_line_back (line_of text a.0.1) (answer_in a.0.1) c.0 c.1;
+        read = on_line_back (line_of text a.0.1) (part_answer_in a.0.0 a.0.1) c.0 c.1;
         new_is = refl;
       } in
       subst (λ (s : JoiningValue × List ℕ). IsPartTaken (head_text v) old rest s.0 s.1) (ok_is _ r c.2) made

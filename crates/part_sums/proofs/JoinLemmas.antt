@@ -13,12 +13,12 @@ use Rattle.x_snapshot.specs.Writer.{snapshot_text}
 use Rattle.part_sums.specs.declared.total.Counted.{Counted}
 use Rattle.part_sums.specs.Answers.{CountsValue, no_counts, both_counts, answer_lines}
 use Rattle.part_sums.specs.Parts.{CountedPart, counted_part, head_text, tail_text, part_text, parts_text, last_state, IsCountedPart, PartsJoin, IsJoined, parts_sum, sum_text}
-use Rattle.part_sums.specs.Reading.{whole_in, tail_in, answer_in}
+use Rattle.part_sums.specs.Reading.{whole_in, tail_in, answer_in, part_answer_in}
 use Rattle.part_sums.specs.Refusals.{last_begin}
 use Rattle.part_sums.specs.Taking.{JoiningValue, joining_with, AreTaken}
 use Rattle.part_sums.proofs.SumLemmas.{both_assoc, none_before, none_after}
 use Rattle.part_sums.proofs.TailLemmas.{IsTail, whole_back, whole_again, tail_back, tail_again}
-use Rattle.part_sums.proofs.AnswerLemmas.{answer_back, answer_again}
+use Rattle.part_sums.proofs.AnswerLemmas.{answer_back, answer_again, part_answer_back}
 use Rattle.part_sums.proofs.TakingLemmas.{answer_some}
 
 last_fits : (p : ProblemValue) (hi : Option (List ℕ)) → IsCutIfAny p hi → Fits p (end_of (cut_if_any p hi))
@@ -54,14 +54,15 @@ module _ (v : SnapshotValue) (g : IsSnapshot v) where
   }
 
   -- one part, and those after it
-  one_taken : (old mid new : JoiningValue) (rest answer after next : List ℕ) (w : SnapshotValue) (c : CountsValue) → Fits v.problem old.here → IsTail v rest w answer → w.state ≡ old.here → answer_in answer ≡ Ok (c, after) → mid ≡ joining_with w.state (last_state w) (both_counts old.counts c)
+  one_taken : (old mid new : JoiningValue) (rest answer after next : List ℕ) (w : SnapshotValue) (c : CountsValue) → Fits v.problem old.here → IsTail v rest w answer → w.state ≡ old.here → part_answer_in w answer ≡ Ok (c, after) → mid ≡ joining_with w.state (last_state w) (both_counts old.counts c)
       → (Fits v.problem mid.here → IsUpTo v mid after new next) → IsUpTo v old rest new next
   one_taken old mid new rest answer after next w c f t place h e later =
-      let a = answer_back answer (c, after) h in
+      let read = part_answer_back w answer (c, after) h in
+      let a = answer_back answer (c, after) read.0 in
       let here : mid.here ≡ last_state w = ap (λ (j : JoiningValue). j.here) e in
       let i = later (subst (Fits v.problem) (sym here) (end_fits v.problem w t.snapshot t.problem)) in
       let q = counted_part w c in
-      let part : IsCountedPart v q = record { snapshot = t.snapshot; problem = t.problem; head = t.head; answer = a.1 } in
+      let part : IsCountedPart v q = record { snapshot = t.snapshot; problem = t.problem; head = t.head; answer = a.1; numbers = read.1 } in
       record {
         parts = q ∷ i.parts;
         join = (part, place, subst (λ (s : StateValue). PartsJoin v s i.parts new.here) here i.join);

@@ -25,15 +25,15 @@ use Rattle.x_snapshot.specs.Writer.{version_of, snapshot_text}
 use Rattle.x_snapshot.specs.Reader.{first_line, onto_line, only}
 use Rattle.x_snapshot.specs.Judged.{snapshot_of}
 use Rattle.part_sums.specs.declared.fault.JoinFault.{JoinFault}
-use Rattle.part_sums.specs.declared.fault.JoinFault.TheVariants.{NoWhole, Gap, Overlap, Twice, BadAnswer, TooLong, Truncated}
-use Rattle.part_sums.specs.Answers.{counts_with, no_counts, answer_lines}
+use Rattle.part_sums.specs.declared.fault.JoinFault.TheVariants.{NoWhole, Gap, Overlap, Twice, BadAnswer, TooLong, Truncated, BadNumbers}
+use Rattle.part_sums.specs.Answers.{counts_with, no_counts, answer_lines, has_numbers_of}
 use Rattle.part_sums.specs.Parts.{CountedPart, head_text, tail_text, part_text, parts_text, join_text, last_state, IsCountedPart, PartsJoin, IsJoined}
-use Rattle.part_sums.specs.Reading.{end_after, up_to_end, whole_from, part_fault, part_from, whole_in, tail_in, line_from, words_behind, key_words, keyed_words, number_of_word, number_of_only, with_number, numbers_after, last_number, are_levels, levels_from, keyed_number, levels_in, past_end_line, answer_in, line_after, line_of}
+use Rattle.part_sums.specs.Reading.{end_after, up_to_end, whole_from, part_fault, part_from, whole_in, tail_in, line_from, words_behind, key_words, keyed_words, number_of_word, number_of_only, with_number, numbers_after, last_number, are_levels, levels_from, keyed_number, levels_in, past_end_line, answer_in, part_answer_in, line_after, line_of}
 use Rattle.part_sums.specs.Refusals.{IsMisplaced, IsNotJoined, IsMisplacedPart, SaysPlace, IsJoinRefused, HasLine}
 use Rattle.part_sums.specs.Taking.{JoiningValue, joining_with, IsTakenRefused, AreTaken, AllTaken, IsOneRefused, IsEndRefused}
 use Rattle.part_sums.proofs.HeadLemmas.{head_is, parted}
 use Rattle.part_sums.proofs.TailLemmas.{whole_back, whole_again, tail_back}
-use Rattle.part_sums.proofs.AnswerLemmas.{answer_again}
+use Rattle.part_sums.proofs.AnswerLemmas.{part_answer_again}
 use Rattle.part_sums.proofs.JoinLemmas.{state_fits, IsUpTo, up_to, part_read, other_parts, no_parts}
 
 -- *which faults say nothing of the order of parts*
@@ -165,6 +165,12 @@ answer_quiet text f h =
     (λ steps. after_quiet (levels_in steps.1) (λ levels. past_end_line levels.1 >>= λ rest. Ok (counts_with visits.0 steps.0 levels.0, rest)) f (levels_in_quiet steps.1)
     (λ levels. after_quiet (past_end_line levels.1) (λ rest. Ok (counts_with visits.0 steps.0 levels.0, rest)) f (end_in_quiet levels.1) (λ rest k. absurd (no_value (counts_with visits.0 steps.0 levels.0, rest) f k))))) h
 
+part_answer_quiet : (part : SnapshotValue) (text : List ℕ) (f : JoinFault) → part_answer_in part text ≡ Err f → Quiet f
+unfolding part_answer_in
+part_answer_quiet part text f h =
+    after_quiet (answer_in text) (λ answer. cond (has_numbers_of part.state (last_state part) answer.0) (Ok answer) (Err BadNumbers)) f (answer_quiet text)
+    (λ answer. test_quiet (has_numbers_of part.state (last_state part) answer.0) (Ok answer) BadNumbers f (λ _ _. tt) (λ k. absurd (no_value answer f k))) h
+
 -- *lines*
 
 newlines_both : (xs ys : List ℕ) → length (filter is_newline (xs ++ ys)) ≡ length (filter is_newline xs) + length (filter is_newline ys)
@@ -216,7 +222,8 @@ module _ (text rest : List ℕ) (v : SnapshotValue) (g : IsSnapshot v) (h : whol
   not_refused mid after q more k i place e (inr none) =
       let read = ok_is _ _ (sym none.is_next.tail ∙ ap (tail_in (head_text v)) e ∙ part_read v g q (parts_text more) i) in
       let answer : none.answer ≡ text_of (answer_lines q.counts) ++ parts_text more = ap (λ x. x.1) read in
-      no_value _ f (sym (ap answer_in answer ∙ answer_again q.counts (parts_text more) i.answer) ∙ none.read)
+      let part : none.part ≡ q.snapshot = ap (λ x. x.0) read in
+      no_value _ f (sym (ap₂ part_answer_in part answer ∙ part_answer_again q.snapshot q.counts (parts_text more) i.answer i.numbers) ∙ none.read)
 
   none_joined : (mid : JoiningValue) (after : List ℕ) (i : IsUpTo v (joining_with v.state v.state no_counts) rest mid after) → 0 < length after → IsTakenRefused (head_text v) mid text after (texts.Fault f line) → IsNotJoined text
   none_joined mid after i some r w qs j = step o.1.0 o.1.2 o.1.3
@@ -253,7 +260,7 @@ module _ (text rest : List ℕ) (v : SnapshotValue) (g : IsSnapshot v) (h : whol
         line_is = l ∙ line_of_front text (join_text v i.parts) after text_is;
         misplaced = subst (λ (b : StateValue). IsMisplaced v.problem b mid.here part.state f) i.before misplaced;
       })
-  place_said mid after i (inr none) = answer_quiet none.answer f none.read text line
+  place_said mid after i (inr none) = part_answer_quiet none.part none.answer f none.read text line
 
   has_line : (mid : JoiningValue) (after : List ℕ) → IsTakenRefused (head_text v) mid text after (texts.Fault f line) → (0 < line) × (line ≤ line_after text)
   has_line mid after (inl no_next) = line_within text after line no_next.1

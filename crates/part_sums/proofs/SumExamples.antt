@@ -1,5 +1,5 @@
 -- The examples of specs/Faults.antt, Answers.antt, Parts.antt, Reading.antt, Refusals.antt and Joining.antt.
-use Rattle.std.proofs.Common.{◌≡◌, ℕ, [], ◌∷◌, ◌++◌, codes, Some, Ok, Err, refl, lit<, lit≤, arith}
+use Rattle.std.proofs.Common.{◌≡◌, false, ℕ, [], ◌∷◌, ◌++◌, codes, Some, Ok, Err, refl, lit<, lit≤, arith}
 use Rattle.std.proofs.Common as common
 use Rattle.std.specs.Fmt.{digits}
 use Rattle.text_lines.specs.Writing.{text_of}
@@ -9,12 +9,13 @@ use Rattle.x_steps.specs.declared.state.Cursor.TheVariants as cursor
 use Rattle.x_steps.specs.StateValue.{at, start}
 use Rattle.x_branches.specs.Cut.{cut_state}
 use Rattle.x_snapshot.specs.Snapshot.{snapshot_with}
-use Rattle.part_sums.specs.declared.fault.JoinFault.TheVariants.{Gap, BadAnswer}
+use Rattle.part_sums.specs.declared.fault.JoinFault.TheVariants.{Gap, BadAnswer, BadNumbers}
 use Rattle.part_sums.specs.declared.total.Counted.TheVariants.{Packings}
 use Rattle.part_sums.specs.Faults.{number_of, name_of}
-use Rattle.part_sums.specs.Answers.{counts_with, levels_sum, answer_lines}
+use Rattle.part_sums.specs.Answers.{counts_with, levels_sum, answer_lines, IsAnswer, HasNumbersOf, has_numbers_of}
 use Rattle.part_sums.specs.Parts.{CountedPart, counted_part, tail_text, part_text, last_state, parts_sum, sum_text}
-use Rattle.part_sums.specs.Reading.{levels_from}
+use Rattle.part_sums.specs.Reading.{levels_from, part_answer_in}
+use Rattle.part_sums.proofs.AnswerLemmas.{answer_again}
 
 -- ---- specs/Faults.antt
 
@@ -33,6 +34,16 @@ its_answer
     : text_of (answer_lines (counts_with 1 20 (1 ∷ 1 ∷ 1 ∷ [])))
     ≡ codes "visits 1" ++ (10 ∷ codes "steps 20") ++ (10 ∷ codes "levels 1 1 1") ++ (10 ∷ codes "end") ++ 10 ∷ []
 its_answer = refl
+
+-- 20 steps and 5 that are owed at the cut are 8 for each of three states, and 1
+its_numbers : HasNumbersOf start (cut_state (4 ∷ [])) (counts_with 0 20 (1 ∷ 1 ∷ 1 ∷ []))
+unfolding cut_state
+its_numbers = refl
+
+-- with a visit there would be four steps less
+others_numbers : has_numbers_of start (cut_state (4 ∷ [])) (counts_with 1 20 (1 ∷ 1 ∷ 1 ∷ [])) ≡ false
+unfolding cut_state
+others_numbers = refl
 
 -- ---- specs/Parts.antt
 
@@ -55,6 +66,9 @@ they_meet : last.snapshot.state ≡ last_state first.snapshot
 unfolding cut_state
 they_meet = refl
 
+last_numbers : HasNumbersOf last.snapshot.state (last_state last.snapshot) last.counts
+last_numbers = refl
+
 whole_sum : parts_sum (first ∷ last ∷ []) ≡ counts_with 1 43 (1 ∷ 2 ∷ 2 ∷ 1 ∷ [])
 whole_sum = refl
 
@@ -73,3 +87,11 @@ ends_in_zero = refl
 no_level : levels_from (0 ∷ []) ≡ Ok []
 unfolding levels_from
 no_level = refl
+
+-- of the first part, a step too many
+a_step_too_many : part_answer_in first.snapshot (text_of (answer_lines (counts_with 0 21 (1 ∷ 1 ∷ 1 ∷ []))) ++ []) ≡ Err BadNumbers
+unfolding part_answer_in cut_state
+a_step_too_many = rw (answer_again (counts_with 0 21 (1 ∷ 1 ∷ 1 ∷ [])) [] its) refl
+  where
+    its : IsAnswer (counts_with 0 21 (1 ∷ 1 ∷ 1 ∷ []))
+    its = record { visits = refl; steps = refl; levels = refl; last = λ s. absurd (cc) }

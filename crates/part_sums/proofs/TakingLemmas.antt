@@ -11,11 +11,11 @@ use Rattle.x_snapshot.specs.Snapshot.{SnapshotValue}
 use Rattle.x_snapshot.specs.Judged.{snapshot_of}
 use Rattle.part_sums.specs.declared.fault.JoinFault.{JoinFault}
 use Rattle.part_sums.specs.Answers.{CountsValue, count_line, levels_line, answer_lines}
-use Rattle.part_sums.specs.Reading.{up_to_end, part_from, tail_in, answer_in, line_of}
+use Rattle.part_sums.specs.Reading.{up_to_end, part_from, tail_in, part_answer_in, line_of}
 use Rattle.part_sums.specs.Refusals.{EachFit, IsMisplaced}
 use Rattle.part_sums.specs.Taking.{JoiningValue, joining_with, IsNextPart, IsElsewhere, HasNoNext, IsPartTaken, IsTakenRefused, AreTaken}
 use Rattle.part_sums.proofs.EndLemmas.{end_back}
-use Rattle.part_sums.proofs.AnswerLemmas.{answer_back}
+use Rattle.part_sums.proofs.AnswerLemmas.{answer_back, part_answer_back}
 
 -- a part that begins elsewhere
 pub elsewhere : (head rest answer : List ℕ) (old : JoiningValue) (part : SnapshotValue) (fault : JoinFault) (b h s : StateValue) (k : CountsValue) → old ≡ joining_with b h k → s ≡ part.state → tail_in head rest ≡ Ok (part, answer)
@@ -32,7 +32,7 @@ elsewhere head rest answer old part fault b h s k e f tail apart misplaced =
     )
 
 -- an answer that is refused
-pub answer_refused : (head : List ℕ) (old : JoiningValue) (text rest : List ℕ) (part : SnapshotValue) (answer : List ℕ) (line : ℕ) (refusal : Refusal JoinFault) → IsNextPart head old rest part answer → line ≡ line_of text answer → IsFaultOf refusal (answer_in answer)
+pub answer_refused : (head : List ℕ) (old : JoiningValue) (text rest : List ℕ) (part : SnapshotValue) (answer : List ℕ) (line : ℕ) (refusal : Refusal JoinFault) → IsNextPart head old rest part answer → line ≡ line_of text answer → IsFaultOf refusal (part_answer_in part answer)
     → IsTakenRefused head old text rest (in_line line refusal)
 answer_refused head old text rest part answer line (refusals.Fault f) i e h = inr (record { part = part; answer = answer; is_next = i; read = h; line_is = e })
 answer_refused head old text rest part answer line refusals.OutOfMemory i e h = tt
@@ -59,10 +59,10 @@ tail_within head text r h =
     let l = ap length (end_back text a.0 a.1) ∙ length-append a.0.0 a.0.1 in
     omega (arith, same, l)
 
-pub next_shorter : (head : List ℕ) (old : JoiningValue) (rest : List ℕ) (part : SnapshotValue) (answer : List ℕ) (counts : CountsValue) (next : List ℕ) → IsNextPart head old rest part answer → answer_in answer ≡ Ok (counts, next) → length next < length rest
+pub next_shorter : (head : List ℕ) (old : JoiningValue) (rest : List ℕ) (part : SnapshotValue) (answer : List ℕ) (counts : CountsValue) (next : List ℕ) → IsNextPart head old rest part answer → part_answer_in part answer ≡ Ok (counts, next) → length next < length rest
 next_shorter head old rest part answer counts next i h =
     let a = tail_within head rest (part, answer) i.tail in
-    let b = ap length (answer_back answer (counts, next) h).0 ∙ length-append (text_of (answer_lines counts)) next in
+    let b = ap length (answer_back answer (counts, next) (part_answer_back part answer (counts, next) h).0).0 ∙ length-append (text_of (answer_lines counts)) next in
     let c = answer_some counts in
     omega (arith, a, b, c)
 

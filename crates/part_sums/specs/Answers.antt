@@ -1,12 +1,15 @@
 -- What is counted of a part, the lines of its answer, and the sum of all parts.
 --
 -- Example: the levels 1 1 1 and then 0 1 1 1 add up to 1 2 2 1, and the answer of a part with a visit, 20 steps and the levels 1 1 1 is
--- `visits 1`, `steps 20`, `levels 1 1 1`, `end`. proofs/SumExamples.antt computes both.
-use Rattle.std.specs.Prelude.{ℕ, ◌≡◌, ◌+◌, ◌-◌, nat_le, Bool, true, List, [], ◌∷◌, length, map, decimal, codes, Some, slice_get}
+-- `visits 1`, `steps 20`, `levels 1 1 1`, `end`. From the small problem's start to the cut 4 no visit and these levels ask for 20 steps: 8
+-- for each of three states, with 1 that is owed at the start, and less 5 that are owed at the cut. proofs/SumExamples.antt computes each.
+use Rattle.std.specs.Prelude.{ℕ, ◌≡◌, ◌+◌, ◌-◌, ◌*◌, ◌==◌, nat_le, Bool, true, List, [], ◌∷◌, length, map, sum, decimal, codes, Some, slice_get}
 use Rattle.std.specs.List.{list_all}
 use Rattle.cover_problem.specs.Problem.{ProblemValue}
 use Rattle.cover_counts.specs.Digits.{numeral}
 use Rattle.cover_counts.specs.declared.counts.Counts.{Counts}
+use Rattle.x_steps.specs.StateValue.{StateValue}
+use Rattle.kept_counts.specs.Owed.{owed}
 use Rattle.part_sums.specs.declared.total.Counted.{Counted}
 use Rattle.part_sums.specs.declared.total.Counted.TheVariants.{Covers, Packings}
 
@@ -81,3 +84,12 @@ pub record IsAnswer (c : CountsValue) : Type 0 where
   pub steps : is_short c.steps ≡ true
   pub levels : list_all is_short c.levels ≡ true
   pub last : slice_get c.levels (length c.levels - 1) ≡ Some 0 → ⊥
+
+-- counts that a stretch from s to t can have: the steps, with what is owed at t and four for each visit, are eight for each X2 state, with
+-- what is owed at s
+abbrev pub HasNumbersOf : StateValue → StateValue → CountsValue → Type 0
+HasNumbersOf s t c = c.steps + owed t + 4 * c.visits ≡ 8 * sum c.levels + owed s
+
+-- the test of that
+abbrev pub has_numbers_of : StateValue → StateValue → CountsValue → Bool
+has_numbers_of s t c = (c.steps + owed t + 4 * c.visits) == (8 * sum c.levels + owed s)

@@ -4,7 +4,7 @@
 use Rattle.std.specs.Prelude.{ℕ, List, codes}
 use Rattle.part_sums.specs.declared.fault.JoinFault.{JoinFault}
 use Rattle.part_sums.specs.declared.fault.JoinFault.TheVariants.{NoWhole, BadPart, NotOnRun, Gap, Overlap, Twice, BadAnswer, TooLong}
-use Rattle.part_sums.specs.declared.fault.JoinFault.TheVariants.{Truncated, LeftOut}
+use Rattle.part_sums.specs.declared.fault.JoinFault.TheVariants.{Truncated, LeftOut, BadNumbers}
 
 -- the number of a refusal
 abbrev pub number_of : JoinFault → ℕ
@@ -18,6 +18,7 @@ number_of BadAnswer = 7
 number_of TooLong = 8
 number_of Truncated = 9
 number_of LeftOut = 10
+number_of BadNumbers = 11
 
 -- its name
 abbrev pub name_of : JoinFault → List ℕ
@@ -31,3 +32,4 @@ name_of BadAnswer = codes "BadAnswer"
 name_of TooLong = codes "TooLong"
 name_of Truncated = codes "Truncated"
 name_of LeftOut = codes "LeftOut"
+name_of BadNumbers = codes "BadNumbers"

@@ -15,7 +15,7 @@ use Rattle.part_sums.specs.declared.fault.JoinFault.TheVariants.{Gap, Overlap, T
 use Rattle.part_sums.specs.declared.total.Counted.{Counted}
 use Rattle.part_sums.specs.Answers.{no_counts, both_counts, sum_lines}
 use Rattle.part_sums.specs.Parts.{head_text, last_state}
-use Rattle.part_sums.specs.Reading.{whole_in, tail_in, answer_in, line_of}
+use Rattle.part_sums.specs.Reading.{whole_in, tail_in, part_answer_in, line_of}
 use Rattle.part_sums.specs.Taking.{JoiningValue, joining_with}
 
 -- what was found, or the fault with this line's number
@@ -38,7 +38,7 @@ unfoldable pub part_found : SnapshotValue → List ℕ → JoiningValue → List
 part_found v text j rest = do
   part ← on_line (line_of text rest) (tail_in (head_text v) rest)
   place ← on_line (line_of text rest) (beginning_found v.problem j.before j.here part.0.state)
-  answer ← on_line (line_of text part.1) (answer_in part.1)
+  answer ← on_line (line_of text part.1) (part_answer_in part.0 part.1)
   Ok (joining_with part.0.state (last_state part.0) (both_counts j.counts answer.0), answer.1)
 
 -- what is taken with the parts of the rest, at most n of them

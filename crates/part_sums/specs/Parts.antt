@@ -10,7 +10,7 @@ use Rattle.x_branches.specs.Branch.{end_of}
 use Rattle.x_snapshot.specs.Snapshot.{SnapshotValue, IsSnapshot, cut_if_any}
 use Rattle.x_snapshot.specs.Writer.{head_lines, position_lines, lines_of_breaks, end_line, snapshot_text}
 use Rattle.part_sums.specs.declared.total.Counted.{Counted}
-use Rattle.part_sums.specs.Answers.{CountsValue, all_counts_sum, answer_lines, sum_lines, IsAnswer}
+use Rattle.part_sums.specs.Answers.{CountsValue, all_counts_sum, answer_lines, sum_lines, IsAnswer, HasNumbersOf}
 
 -- a part: its snapshot, and what was counted of it
 pub record CountedPart : Type 0 where
@@ -45,12 +45,13 @@ join_text v parts = snapshot_text v ++ parts_text parts
 abbrev pub last_state : SnapshotValue → StateValue
 last_state v = end_of (cut_if_any v.problem v.hi)
 
--- a part of the whole v: a snapshot of the same problem, in the same version, with an answer
+-- a part of the whole v: a snapshot of the same problem, in the same version, with an answer that it can have
 pub record IsCountedPart (v : SnapshotValue) (q : CountedPart) : Type 0 where
   pub snapshot : IsSnapshot q.snapshot
   pub problem : q.snapshot.problem ≡ v.problem
   pub head : head_text q.snapshot ≡ head_text v
   pub answer : IsAnswer q.counts
+  pub numbers : HasNumbersOf q.snapshot.state (last_state q.snapshot) q.counts
 
 -- parts of the whole v that join from s to t: the first is at s, each later one is where the one before ends, and the last one ends at t
 abbrev pub PartsJoin : SnapshotValue → StateValue → List CountedPart → StateValue → Type 0

@@ -1,7 +1,7 @@
 -- What stands at the front of a text of parts: a snapshot's lines up to `end`, or an answer; what they say, or their fault.
 --
--- Example: `visits 1`, `steps 20`, `levels 1 1 1`, `end` say these counts; with `levels 1 0` in their place it is a BadAnswer.
--- proofs/SumExamples.antt computes it.
+-- Example: `visits 1`, `steps 20`, `levels 1 1 1`, `end` say these counts; with `levels 1 0` in their place it is a BadAnswer. Of the small
+-- problem's run up to the cut 4, whose 20 steps meet no visit, an answer with 21 steps has BadNumbers. proofs/SumExamples.antt computes both.
 use Rattle.std.specs.Prelude.{ℕ, ◌-◌, ◌==◌, nat_lt, nat_le, Bool, not, ◌&&◌, ◌||◌, if◌then◌else◌, List, [], ◌∷◌, ◌++◌, length, take, Option, Some, None, Result, Ok, Err, codes, get_or, suc, filter}
 use Rattle.std.specs.Str.{bytes_eq}
 use Rattle.text_lines.specs.Lines.{words_of, is_newline, is_empty}
@@ -14,8 +14,9 @@ use Rattle.x_snapshot.specs.Snapshot.{SnapshotValue}
 use Rattle.x_snapshot.specs.Reader.{first_line, onto_line, only}
 use Rattle.x_snapshot.specs.Judged.{snapshot_of}
 use Rattle.part_sums.specs.declared.fault.JoinFault.{JoinFault}
-use Rattle.part_sums.specs.declared.fault.JoinFault.TheVariants.{NoWhole, BadPart, NotOnRun, BadAnswer, TooLong, Truncated}
-use Rattle.part_sums.specs.Answers.{CountsValue, counts_with, most_digits}
+use Rattle.part_sums.specs.declared.fault.JoinFault.TheVariants.{NoWhole, BadPart, NotOnRun, BadAnswer, TooLong, Truncated, BadNumbers}
+use Rattle.part_sums.specs.Answers.{CountsValue, counts_with, most_digits, has_numbers_of}
+use Rattle.part_sums.specs.Parts.{last_state}
 
 -- *a snapshot's lines*
 
@@ -146,6 +147,12 @@ answer_in text = do
   levels ← levels_in steps.1
   rest ← past_end_line levels.1
   Ok (counts_with visits.0 steps.0 levels.0, rest)
+
+-- the same, if they are counts that this part can have
+unfoldable pub part_answer_in : SnapshotValue → List ℕ → Result (CountsValue × List ℕ) JoinFault
+part_answer_in part text = do
+  answer ← answer_in text
+  if has_numbers_of part.state (last_state part) answer.0 then Ok answer else Err BadNumbers
 
 -- *lines*
 

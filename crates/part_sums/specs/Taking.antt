@@ -11,7 +11,7 @@ use Rattle.part_sums.specs.declared.fault.JoinFault.{JoinFault}
 use Rattle.part_sums.specs.declared.fault.JoinFault.TheVariants.{LeftOut}
 use Rattle.part_sums.specs.Answers.{CountsValue, both_counts}
 use Rattle.part_sums.specs.Parts.{last_state}
-use Rattle.part_sums.specs.Reading.{tail_in, answer_in, line_of}
+use Rattle.part_sums.specs.Reading.{tail_in, part_answer_in, line_of}
 use Rattle.part_sums.specs.Refusals.{EachFit, IsMisplaced}
 
 -- what was taken: where the last part begins and ends, and what is counted of all
@@ -53,15 +53,15 @@ pub record IsPartTaken (head : List ℕ) (old : JoiningValue) (rest : List ℕ) 
   pub answer : List ℕ
   pub counts : CountsValue
   pub is_next : IsNextPart head old rest part answer
-  pub read : answer_in answer ≡ Ok (counts, next)
+  pub read : part_answer_in part answer ≡ Ok (counts, next)
   pub new_is : new ≡ joining_with part.state (last_state part) (both_counts old.counts counts)
 
--- the next part's answer has a fault
+-- the next part's answer has a fault, or it can't be the part's
 pub record HasNoAnswer (head : List ℕ) (old : JoiningValue) (text rest : List ℕ) (fault : JoinFault) (line : ℕ) : Type 0 where
   pub part : SnapshotValue
   pub answer : List ℕ
   pub is_next : IsNextPart head old rest part answer
-  pub read : answer_in answer ≡ Err fault
+  pub read : part_answer_in part answer ≡ Err fault
   pub line_is : line ≡ line_of text answer
 
 -- there is no next part, or none with an answer; the line is where that begins

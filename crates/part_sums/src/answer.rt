@@ -1,18 +1,20 @@
 //! The answer of a part.
-ghost use Rattle.std.specs.Prelude.{◌≡◌, ◌-◌, ◌↔◌, ◌<◌, length, get_or, IsTrue};
+ghost use Rattle.std.specs.Prelude.{◌≡◌, ◌-◌, ◌↔◌, ◌<◌, length, get_or, IsTrue, IfOk};
 ghost use Rattle.text_lines.specs.Lines.{words_of};
 ghost use Rattle.text_lines.specs.Answers.{Gives};
 ghost use Rattle.x_snapshot.specs.Reader.{first_line, lent_words, only, Reads};
-ghost use Rattle.part_sums.specs.Answers.{counts_value};
+ghost use Rattle.part_sums.specs.Answers.{counts_value, HasNumbersOf};
+ghost use Rattle.part_sums.specs.Parts.{last_state};
 ghost use Rattle.part_sums.specs.Reading as spec;
 ghost use Rattle.part_sums.specs.Reading.{line_from};
 
 use crate::fault::{Found, JoinFault};
 use crate::number::{number_of_word, numbers_from};
+use crate::order::last_state;
 use cover_counts::{Counts, Natural};
-use std::alloc::Global;
+use std::alloc::{AllocError, Global};
 use text_lines::{Refusal, has_words, is_spaced, split_ended_line, split_word};
-use x_snapshot::only_word;
+use x_snapshot::{Snapshot, only_word};
 
 /// The first line of a text, and what stands after its end.
 fn take_line(text: &[u8]) -> Found<(&[u8], &[u8])>
@@ -135,7 +137,7 @@ fn past_end_line(text: &[u8]) -> Found<&[u8]>
 
 /// The counts of an answer, and what stands after it.
 #[tactic(auto, unfolding(crate::specs::Reading::answer_in))]
-pub(crate) fn answer_in(alloc: Global, text: &[u8]) -> Found<(Counts, &[u8])>
+fn answer_in(alloc: Global, text: &[u8]) -> Found<(Counts, &[u8])>
     ensures { Reads counts_value result (spec.answer_in text.now) }
 {
     let (visits, rest) = keyed_number(alloc, b"visits", text)?;
@@ -147,5 +149,30 @@ pub(crate) fn answer_in(alloc: Global, text: &[u8]) -> Found<(Counts, &[u8])>
         steps,
         levels,
     };
+    Ok((counts, rest))
+}
+
+/// Whether counts can be a part's, by their numbers.
+fn has_numbers_of(alloc: Global, part: &Snapshot, counts: &Counts) -> Result<bool, AllocError>
+    ensures { IfOk result (λ can. IsTrue can ↔
+        HasNumbersOf part.now.state (last_state part.now) (counts_value counts.now)) }
+{
+    let last = last_state(alloc, part)?;
+    counts.can_be_between(alloc, part.state(), &last)
+}
+
+/// The counts of a part's answer, and what stands after it.
+#[tactic(auto, unfolding(crate::specs::Reading::part_answer_in))]
+pub(crate) fn part_answer_in<'t>(
+    alloc: Global,
+    part: &Snapshot,
+    text: &'t [u8],
+) -> Found<(Counts, &'t [u8])>
+    ensures { Reads counts_value result (spec.part_answer_in part.now text.now) }
+{
+    let (counts, rest) = answer_in(alloc, text)?;
+    if !has_numbers_of(alloc, part, &counts)? {
+        return Err(Refusal::Fault(JoinFault::BadNumbers));
+    }
     Ok((counts, rest))
 }

@@ -28,6 +28,8 @@ pub enum JoinFault {
     Truncated,
     #[error("a part is left out at the end: the last one ends before the whole does")]
     LeftOut,
+    #[error("the steps of this answer can't be those of its part: they don't fit its visits and levels")]
+    BadNumbers,
 }
 
 impl JoinFault {
@@ -46,6 +48,7 @@ impl JoinFault {
             JoinFault::TooLong => 8,
             JoinFault::Truncated => 9,
             JoinFault::LeftOut => 10,
+            JoinFault::BadNumbers => 11,
         }
     }
 
@@ -64,6 +67,7 @@ impl JoinFault {
             JoinFault::TooLong => "TooLong",
             JoinFault::Truncated => "Truncated",
             JoinFault::LeftOut => "LeftOut",
+            JoinFault::BadNumbers => "BadNumbers",
         }
     }
 }

@@ -8,7 +8,7 @@ ghost use Rattle.part_sums.specs.Parts.{last_state};
 ghost use Rattle.part_sums.specs.Reading.{line_of};
 ghost use Rattle.part_sums.specs.Taking.{joining_with, IsNextPart, IsNextRefused, IsPartTaken, IsTakenRefused, AllTaken, IsOneRefused, IsEndRefused};
 
-use crate::answer::answer_in;
+use crate::answer::part_answer_in;
 use crate::fault::{Found, JoinFault};
 use crate::order::{check_place, last_state};
 use crate::sum::{both_counts, no_counts};
@@ -136,7 +136,7 @@ impl Joining {
             Ok(next) => next,
             Err(refusal) => return Err(refusal.in_line(line_of(text, rest))),
         };
-        let (counts, next) = match answer_in(alloc, answer) {
+        let (counts, next) = match part_answer_in(alloc, &part, answer) {
             Ok(next) => next,
             Err(refusal) => return Err(refusal.in_line(line_of(text, answer))),
         };

@@ -25,7 +25,7 @@ struct Row(Text, JoinFault, u64);
 /// A text, what is counted, and the lines of the sum.
 struct Sum(Text, Counted, &'static str);
 
-static SUMS: [Sum; 5] = [
+static SUMS: [Sum; 6] = [
     Sum(
         Text(PROBLEM, WHOLE, FIRST, LAST),
         Counted::Covers,
@@ -58,15 +58,26 @@ static SUMS: [Sum; 5] = [
         Text(
             PROBLEM,
             "from start\nto end\nstate X1 -\nend\nfrom start\nto 4\nstate X1 -\nend\n",
-            "visits 340282366920938463463374607431768211455\nsteps 18446744073709551615\nlevels 99999999999999999999\nend\n",
+            "visits 340282366920938463463374607431768211455\nsteps 1361129467683753853853498429727072845824\nlevels 340282366920938463463374607431768211456\nend\n",
             LAST,
         ),
         Counted::Covers,
-        "visits 340282366920938463463374607431768211456\nsteps 18446744073709551638\nlevels 99999999999999999999 1 1 1\n",
+        "visits 340282366920938463463374607431768211456\nsteps 1361129467683753853853498429727072845847\nlevels 340282366920938463463374607431768211456 1 1 1\n",
+    ),
+    // Other numbers than the part's, which fit all the same.
+    Sum(
+        Text(
+            PROBLEM,
+            "from start\nto end\nstate X1 -\nend\nfrom start\nto 4\nstate X1 -\nend\n",
+            "visits 2\nsteps 12\nlevels 1 1 1\nend\n",
+            LAST,
+        ),
+        Counted::Covers,
+        "visits 3\nsteps 35\nlevels 1 2 2 1\n",
     ),
 ];
 
-static SPOILT: [Row; 20] = [
+static SPOILT: [Row; 27] = [
     Row(Text("", "", "", ""), JoinFault::Truncated, 1),
     Row(Text(PROBLEM, FIRST, LAST, ""), JoinFault::BadPart, 14),
     Row(Text("hello\nend\n", FIRST, LAST, ""), JoinFault::NoWhole, 1),
@@ -173,6 +184,80 @@ static SPOILT: [Row; 20] = [
         ),
         JoinFault::Truncated,
         26,
+    ),
+    // A step, a visit or a state too many.
+    Row(
+        Text(
+            PROBLEM,
+            WHOLE,
+            "from start\nto 4\nstate X1 -\nend\n",
+            "visits 0\nsteps 21\nlevels 1 1 1\nend\n",
+        ),
+        JoinFault::BadNumbers,
+        18,
+    ),
+    Row(
+        Text(
+            PROBLEM,
+            WHOLE,
+            "from start\nto 4\nstate X1 -\nend\n",
+            "visits 1\nsteps 20\nlevels 1 1 1\nend\n",
+        ),
+        JoinFault::BadNumbers,
+        18,
+    ),
+    Row(
+        Text(
+            PROBLEM,
+            WHOLE,
+            "from start\nto 4\nstate X1 -\nend\n",
+            "visits 0\nsteps 20\nlevels 1 1 2\nend\n",
+        ),
+        JoinFault::BadNumbers,
+        18,
+    ),
+    // The same but for 2^64.
+    Row(
+        Text(
+            PROBLEM,
+            WHOLE,
+            "from start\nto 4\nstate X1 -\nend\n",
+            "visits 0\nsteps 18446744073709551636\nlevels 1 1 1\nend\n",
+        ),
+        JoinFault::BadNumbers,
+        18,
+    ),
+    // The numbers of the first part, for the second.
+    Row(
+        Text(
+            PROBLEM,
+            WHOLE,
+            FIRST,
+            "from 4\nto end\nstate X5 4\nend\nvisits 0\nsteps 20\nlevels 1 1 1\nend\n",
+        ),
+        JoinFault::BadNumbers,
+        26,
+    ),
+    // What stands before the numbers is looked at first.
+    Row(
+        Text(
+            PROBLEM,
+            WHOLE,
+            "from 4\nto end\nstate X5 4\nend\n",
+            "visits 1\nsteps 24\nlevels 0 1 1 1\nend\n",
+        ),
+        JoinFault::Gap,
+        14,
+    ),
+    Row(
+        Text(
+            PROBLEM,
+            WHOLE,
+            "from start\nto 4\nstate X1 -\nend\n",
+            "visits 0\nsteps 21\nlevels 1 1 1\nends\n",
+        ),
+        JoinFault::BadAnswer,
+        18,
     ),
     Row(
         Text(PROBLEM, WHOLE, "items a\n", LAST),

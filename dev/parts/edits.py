@@ -1,8 +1,8 @@
 """Wrong bodies as files, and the records of which were refused: what check_edits and wrong_bodies share. NOT PROVED.
 
 An edit has lines `file: PATH`, and after it pairs of lines `old: TEXT` and `new: TEXT`, each text on one line; a later pair applies
-to what the earlier ones made. A line `refuted: PATH` names a law of the crate, as laws::none_is_lost, that denies what the edited body would have to
-meet; `rt must-fail` doesn't read it.
+to what the earlier ones made. A line `refuted: PATH` names a law of the crate, as laws::none_is_lost, or of a crate of laws, as lab_pool_laws::laws::none_is_lost, that
+denies what the edited body would have to meet; `rt must-fail` doesn't read it.
 """
 import dataclasses
 import hashlib
@@ -49,8 +49,11 @@ def change_of(path, text, old, new):
 
 
 def law_of(folder, path):
-    """The head of a law of a crate, which is a public function with an empty body; nothing where there is none."""
+    """The head of a law, which is a public function with an empty body, of a crate, or of a crate of laws that is named first; nothing where
+    there is none."""
     *modules, name = path.split("::")
+    if modules and (folder.parent / modules[0] / "src").is_dir():
+        folder, *modules = folder.parent / modules[0], *modules[1:]
     place = folder.joinpath("src", *modules) if modules else folder / "src" / "lib"
     for file in (place.with_suffix(".rt"), place / "mod.rt"):
         found = re.search(rf"^pub fn {re.escape(name)}\b(.*?)^\{{\}}$", file.read_text() if file.is_file() else "", re.M | re.S)

@@ -65,6 +65,17 @@ class Refuted(unittest.TestCase):
         for name in ("laws::all_are_kept", "laws::lose", "laws::keep", "laws::none", "laws", "none_is_lost", "other::none_is_lost"):
             self.assertEqual(self.read(f"refuted: {name}\n{EDIT}").fault, f"there is no law {name} that denies something")
 
+    def test_a_law_of_a_crate_of_laws(self):
+        with tempfile.TemporaryDirectory() as crates:
+            for folder in ("low/src", "low/wrong-bodies", "low_laws/src"):
+                os.makedirs(os.path.join(crates, folder))
+            pathlib.Path(crates, "low", "src", "laws.rt").write_text("    false\n", encoding="utf-8")
+            pathlib.Path(crates, "low_laws", "src", "laws.rt").write_text(LAWS, encoding="utf-8")
+            file = pathlib.Path(crates, "low", "wrong-bodies", "loses.edit")
+            file.write_text(f"refuted: low_laws::laws::none_is_lost\n{EDIT}", encoding="utf-8")
+            edit = read_edit(file)
+            self.assertEqual((edit.fault, edit.denied.strip()), ("", "(n : ℕ) → IsLost n → ⊥"))
+
 
 class Struck(unittest.TestCase):
     """A crate with two edits whose record says that both are refused."""

@@ -1,5 +1,5 @@
 -- The examples of specs/Worker.antt.
-use Rattle.std.proofs.Common.{◌≡◌, List, [], ◌∷◌, map, ap, refl, arith}
+use Rattle.std.proofs.Common.{◌≡◌, ℕ, true, false, Some, Option, List, [], ◌∷◌, map, Result, Ok, inl, inr, ap, refl, sym, ◌∙◌, arith}
 use Rattle.lab_history.specs.declared.grant.Grant.{Grant}
 use Rattle.lab_history.specs.declared.entry.Call.TheVariants as call
 use Rattle.lab_history.specs.declared.entry.Reply.TheVariants as reply
@@ -7,10 +7,11 @@ use Rattle.lab_history.specs.declared.fault.BookFault.TheVariants as fault
 use Rattle.lab_history.specs.declared.kind.CallKind.{CallKind}
 use Rattle.lab_history.specs.declared.kind.CallKind.TheVariants as kind
 use Rattle.lab_history.specs.Kinds.{kind_of}
+use Rattle.lab_book.specs.declared.lease.Leased.{Leased}
 use Rattle.lab_desk.specs.declared.seat.Noted.{Noted}
 use Rattle.lab_desk.specs.Record.{SeatValue, noted, call_entry}
 use Rattle.lab_pool.specs.declared.search.Next.TheVariants as next
-use Rattle.lab_pool.specs.Worker.{ending_call, next_after, EndsTile}
+use Rattle.lab_pool.specs.Worker.{ending_call, next_after, EndsTile, EndsIn, Abandons, NotesEnding, HasLeft, leaves_mark, IfLeased, IsLeasedTo, KeepsSeat}
 
 -- worker 0's lease of a tile, by the entry 3
 abbrev lease : Grant
@@ -37,3 +38,61 @@ not_parked (x ∷ y ∷ l, n) = let e = n.1 in absurd (cc)
 
 then_it_ends : next_after fault.NotWaiting ≡ next.Refused
 then_it_ends = refl
+
+-- a seat with no note
+abbrev fresh : SeatValue
+fresh = record { number = 0; notes = []; kept = 0 }
+
+nothing_noted : ¬ EndsIn fresh (call.Close lease) reply.Done
+nothing_noted ([], n) = let e = n.1 in absurd (cc)
+nothing_noted (x ∷ l, n) = let e = n.1 in absurd (cc)
+
+-- the tile that was closed isn't abandoned
+not_abandoned : ¬ Abandons closed lease
+not_abandoned ([], n) = let e : kind.Close ∷ [] ≡ kind.Abandon ∷ [] = ap asked n.1 in absurd (cc)
+not_abandoned (x ∷ [], n) = let e = n.1 in absurd (cc)
+not_abandoned (x ∷ y ∷ l, n) = let e = n.1 in absurd (cc)
+
+-- a seat of which one lease is noted to be abandoned
+abbrev abandoned : SeatValue
+abandoned = record { number = 0; notes = noted 4 (call_entry 0 (call.Abandon lease) reply.Done) ∷ []; kept = 0 }
+
+-- its tile was neither closed nor parked
+not_left : ¬ HasLeft abandoned lease
+not_left (inl ([], n)) = let e : kind.Abandon ∷ [] ≡ kind.Close ∷ [] = ap asked n.1 in absurd (cc)
+not_left (inl (x ∷ [], n)) = let e = n.1 in absurd (cc)
+not_left (inl (x ∷ y ∷ l, n)) = let e = n.1 in absurd (cc)
+not_left (inr ([], n)) = let e : kind.Abandon ∷ [] ≡ kind.Park ∷ [] = ap asked n.1 in absurd (cc)
+not_left (inr (x ∷ [], n)) = let e = n.1 in absurd (cc)
+not_left (inr (x ∷ y ∷ l, n)) = let e = n.1 in absurd (cc)
+
+-- a call that is noted isn't the end that was wanted where the worker does something else next
+abbrev well : Result ℕ ℕ
+well = Ok 0
+
+noted_otherwise : ¬ NotesEnding fresh closed next.Stop lease well
+noted_otherwise n = let e : kind.Close ∷ [] ≡ kind.Park ∷ [] = ap asked n.1 in absurd (cc)
+
+done_goes_past : leaves_mark next.Done ≡ false
+done_goes_past = refl
+
+stopped_stays : leaves_mark next.Stop ≡ true
+stopped_stays = refl
+
+-- of what was leased not everything is true
+abbrev leased_five : Result (Option ℕ) ℕ
+leased_five = Ok (Some 5)
+
+not_six : ¬ IfLeased leased_five (λ n. n ≡ 6)
+not_six h = let e : 5 ≡ 6 = h in omega (arith, e)
+
+-- a seat that is another one afterwards isn't kept
+abbrev another : SeatValue
+another = record { number = 1; notes = []; kept = 0 }
+
+not_kept : ¬ KeepsSeat fresh another
+not_kept k = let e : 1 ≡ 0 = k.0 in omega (arith, e)
+
+-- what worker 0 leased isn't leased to another worker's seat
+not_leased_to : (l : Leased) → l.lease.worker ≡ 0 → ¬ IsLeasedTo another l
+not_leased_to l w h = let e : 0 ≡ 1 = sym w ∙ h.0 in omega (arith, e)

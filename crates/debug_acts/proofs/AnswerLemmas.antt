@@ -1,15 +1,13 @@
 -- What the lines of a walk are, where it went on and where it was refused.
-use Rattle.std.proofs.Common.{◌≡◌, ℕ, ◌<◌, ◌≤◌, ◌==◌, true, false, ◌⊎◌, inl, inr, List, [], ◌∷◌, ◌++◌, Option, IfSome, refl, sym, ◌∙◌, ap, ap₂, subst, arith, append_assoc, append-nil}
+use Rattle.std.proofs.Common.{◌≡◌, ℕ, ◌<◌, ◌≤◌, ◌==◌, true, false, ◌⊎◌, inl, inr, Result, List, [], ◌∷◌, ◌++◌, Option, Some, IfSome, refl, sym, ◌∙◌, ap, ap₂, subst, arith, append_assoc, append-nil}
 use Rattle.std.proofs.lemmas.Bool.{ne_eqb}
 use Rattle.std.proofs.lemmas.Bool.Decides.{eqb_tells}
 use Rattle.std.specs.List.{list_all}
 use Rattle.cover_problem.specs.Problem.{ProblemValue}
 use Rattle.text_lines.specs.Writing.{line_text, text_of}
 use Rattle.x_steps.specs.StateValue.{StateValue}
-use Rattle.x_branches.specs.declared.branch.Branch.{Branch}
 use Rattle.x_branches.specs.Branch.{end_of}
 use Rattle.x_branches.specs.Runner.{RunnerValue}
-use Rattle.lab_book.specs.Book.{BookValue}
 use Rattle.lab_world.specs.Worker.{WorkerValue, HoldsTile}
 use Rattle.debug_language.specs.declared.fault.DebugFault.TheVariants.{AtEnd}
 use Rattle.debug_language.specs.declared.words.Plain.TheVariants.{End}
@@ -17,17 +15,14 @@ use Rattle.x_texts.specs.declared.breakpoint.Break.{Break}
 use Rattle.x_texts.specs.Breaks.{is_break}
 use Rattle.debug_views.specs.Breakpoints.{meets, first_met}
 use Rattle.debug_views.specs.Lines.{plain, debug_refusal}
-use Rattle.debug_acts.specs.Walk.{forward, IsPartWay, steps_ahead, state_on, visit_lines, moved_lines, walk_lines, step_count, end_lines, step_lines, run_count, run_lines, stop_line}
-use Rattle.debug_acts.specs.Work.{AtWork, work}
+use Rattle.debug_acts.specs.Walk.{steps_ahead, state_on, visit_lines, moved_lines, walk_lines, step_count, end_lines, step_lines, run_count, run_lines, stop_line}
+use Rattle.debug_acts.specs.Acts.{walk_acts, PlaysWalk}
 use Rattle.debug_views.proofs.LineLemmas.{one_line, more_lines}
-use Rattle.debug_acts.proofs.WalkLemmas.{on_problem, on_branch, on_position}
-use Rattle.debug_acts.proofs.ForwardLemmas.{CanWalk, all_gone, not_all}
-use Rattle.debug_acts.proofs.WalkedLemmas.{least_second, least_within}
-use Rattle.debug_acts.proofs.RunLemmas.{found_passes}
-
--- where a worker stands after so many steps
-pub stands_at : (n : ℕ) (a v : AtWork) → v ≡ forward n a → v.worker.runner.position ≡ state_on a.worker.runner n
-stands_at n a v e = ap (λ (u : AtWork). u.worker.runner.position) e ∙ on_position n a
+use Rattle.debug_acts.proofs.CountLemmas.{least_second, least_within}
+use Rattle.debug_acts.proofs.ForwardLemmas.{all_gone, not_all, none_ahead, some_ahead}
+use Rattle.debug_acts.proofs.WorkLemmas.{AtWork, work, IsWork, can_walk}
+use Rattle.debug_acts.proofs.LeadLemmas.{LeadsTo, begun, Came, came_to, plays_all}
+use Rattle.debug_acts.proofs.RunLemmas.{found_passes, run_within}
 
 -- visits, the count and the position, one after the other
 pub walk_text : (r : RunnerValue) (n m : ℕ) (s : StateValue) (old one two : List ℕ) → m ≡ n → s ≡ state_on r n
@@ -42,87 +37,94 @@ pub line_more : (ls : List (List (List ℕ))) (line : List (List ℕ)) (old one 
 line_more ls line old one two e h =
     h ∙ ap₂ (λ x y. x ++ y) e (one_line line) ∙ append_assoc old _ _ ∙ ap (λ x. old ++ x) (sym (more_lines ls (line ∷ [])))
 
-module _ (r : RunnerValue) (k : CanWalk r) where
-  -- at its branch's end nothing is ahead, and elsewhere some steps are
-  pub none_ahead : r.position ≡ end_of r.branch.hi → steps_ahead r ≡ 0
-  none_ahead e = sym (all_gone r k 0 (omega arith) e)
+-- where a walk stands that has gone so many steps
+pub stands_at : (u : AtWork) (n : ℕ) (v : AtWork) → Came u n v → v.worker.runner.position ≡ state_on u.worker.runner n
+stands_at u n v c = ap (λ (w : WorkerValue). w.runner.position) c.at
 
-  pub some_ahead : (r.position ≡ end_of r.branch.hi → ⊥) → 0 < steps_ahead r
-  some_ahead h = not_all r k 0 (omega arith) h
+-- no step is taken
+none_plays : {X E : Type 0} (r : Result X E) (u : AtWork) (n : ℕ) → 0 ≡ n → PlaysWalk r u.book u.worker n u.book u.worker
+none_plays r u n e =
+    subst (λ (k : ℕ). PlaysWalk r u.book u.worker k u.book u.worker) e (plays_all u.book u.book (Some u.worker) (Some u.worker) r [] refl)
 
--- ---- `step`
+module _ (u : AtWork) (s : IsWork u) where
+  abbrev r : RunnerValue
+  r = u.worker.runner
 
-module _ (b : BookValue) (x : WorkerValue) (k : CanWalk x.runner) (most : ℕ) where
-  pub none_to_step : x.runner.position ≡ end_of x.runner.branch.hi → 0 ≡ step_count x.runner most
-  none_to_step e = let h = none_ahead x.runner k e in rw h (least_second most 0 (omega arith))
+  abbrev IsAtEnd : AtWork → Type 0
+  IsAtEnd v = v.worker.runner.position ≡ end_of v.worker.runner.branch.hi
 
-  pub step_refused_made : x.runner.position ≡ end_of x.runner.branch.hi → work b x ≡ forward (step_count x.runner most) (work b x)
-  step_refused_made e = ap (λ n. forward n (work b x)) (none_to_step e)
+  -- ---- `step`
 
-  pub step_refused_lines : x.runner.position ≡ end_of x.runner.branch.hi → step_lines x.runner most ≡ debug_refusal AtEnd ∷ []
-  step_refused_lines e = let h = none_ahead x.runner k e in rw h refl
+  module _ (most : ℕ) where
+    abbrev count : ℕ
+    count = step_count r most
 
-  -- the lines where it isn't refused
-  pub step_lines_are : (x.runner.position ≡ end_of x.runner.branch.hi → ⊥)
-      → step_lines x.runner most ≡ walk_lines x.runner (step_count x.runner most) ++ end_lines x.runner (step_count x.runner most)
-  step_lines_are go = let l = some_ahead x.runner k go in let e = ne_eqb (steps_ahead x.runner) 0 (λ h. omega arith) in rw e refl
+    pub step_within : count ≤ steps_ahead r
+    step_within = least_within most (steps_ahead r)
 
-  module _ (go : x.runner.position ≡ end_of x.runner.branch.hi → ⊥) (v : AtWork) (made : v ≡ forward (step_count x.runner most) (work b x)) where
-    within : step_count x.runner most ≤ steps_ahead x.runner
-    within = least_within most (steps_ahead x.runner)
+    pub step_refused : {X E : Type 0} (result : Result X E) → IsAtEnd u → PlaysWalk result u.book u.worker count u.book u.worker
+    step_refused result e =
+        let h = none_ahead r (can_walk u s) e in none_plays result u count (rw h (least_second most 0 (omega arith)))
 
-    its_end : end_of v.worker.runner.branch.hi ≡ end_of x.runner.branch.hi
-    its_end = ap (λ (c : Branch). end_of c.hi) (ap (λ (u : AtWork). u.worker.runner.branch) made ∙ on_branch (step_count x.runner most) (work b x))
+    pub step_refused_lines : IsAtEnd u → step_lines r most ≡ debug_refusal AtEnd ∷ []
+    step_refused_lines e = let h = none_ahead r (can_walk u s) e in rw h refl
 
-    pub step_to_end : v.worker.runner.position ≡ end_of v.worker.runner.branch.hi → step_lines x.runner most ≡ walk_lines x.runner (step_count x.runner most) ++ plain End ∷ []
-    step_to_end e =
-        let all = all_gone x.runner k (step_count x.runner most) within (sym (stands_at (step_count x.runner most) (work b x) v made) ∙ e ∙ its_end) in
-        step_lines_are go ∙ ap (λ ls. walk_lines x.runner (step_count x.runner most) ++ ls) (at_end (step_count x.runner most) all)
-      where
-        at_end : (n : ℕ) → n ≡ steps_ahead x.runner → end_lines x.runner n ≡ plain End ∷ []
-        at_end n h = by (eqb_tells n (steps_ahead x.runner))
-          where
-            by : (((n == steps_ahead x.runner) ≡ true) × (n ≡ steps_ahead x.runner)) ⊎ (((n == steps_ahead x.runner) ≡ false) × (n ≡ steps_ahead x.runner → ⊥)) → end_lines x.runner n ≡ plain End ∷ []
-            by (inl t) = rw t.0 refl
-            by (inr t) = absurd (t.1 h)
+    -- the lines where it isn't refused
+    step_lines_are : (IsAtEnd u → ⊥) → step_lines r most ≡ walk_lines r count ++ end_lines r count
+    step_lines_are go = let l = some_ahead r (can_walk u s) go in let e = ne_eqb (steps_ahead r) 0 (λ h. omega arith) in rw e refl
 
-    pub step_not_to_end : (v.worker.runner.position ≡ end_of v.worker.runner.branch.hi → ⊥) → step_lines x.runner most ≡ walk_lines x.runner (step_count x.runner most)
-    step_not_to_end h =
-        let l = not_all x.runner k (step_count x.runner most) within (λ e. h (stands_at (step_count x.runner most) (work b x) v made ∙ e ∙ sym its_end)) in
-        let none : end_lines x.runner (step_count x.runner most) ≡ [] = rw (ne_eqb (step_count x.runner most) (steps_ahead x.runner) (λ e. omega arith)) refl in
-        step_lines_are go ∙ ap (λ ls. walk_lines x.runner (step_count x.runner most) ++ ls) none ∙ append-nil (walk_lines x.runner (step_count x.runner most))
+    module _ (go : IsAtEnd u → ⊥) (v : AtWork) (c : Came u count v) where
+      its_end : end_of v.worker.runner.branch.hi ≡ end_of r.branch.hi
+      its_end = ap (λ (w : WorkerValue). end_of w.runner.branch.hi) c.at
 
--- ---- `run`
+      pub step_to_end : IsAtEnd v → step_lines r most ≡ walk_lines r count ++ plain End ∷ []
+      step_to_end e =
+          let all = all_gone r (can_walk u s) count step_within (sym (stands_at u count v c) ∙ e ∙ its_end) in
+          step_lines_are go ∙ ap (λ ls. walk_lines r count ++ ls) (at_end count all)
+        where
+          at_end : (n : ℕ) → n ≡ steps_ahead r → end_lines r n ≡ plain End ∷ []
+          at_end n h = by (eqb_tells n (steps_ahead r))
+            where
+              by : (((n == steps_ahead r) ≡ true) × (n ≡ steps_ahead r)) ⊎ (((n == steps_ahead r) ≡ false) × (n ≡ steps_ahead r → ⊥))
+                  → end_lines r n ≡ plain End ∷ []
+              by (inl t) = rw t.0 refl
+              by (inr t) = absurd (t.1 h)
 
--- the book's problem stays the runner's
-pub same_book_problem : (n : ℕ) (a v : AtWork) → v ≡ forward n a → HoldsTile v.book v.worker → v.book.problem ≡ a.worker.runner.problem
-same_book_problem n a v e h = sym h.problem ∙ ap (λ (u : AtWork). u.worker.runner.problem) e ∙ on_problem n a
+      pub step_not_to_end : (IsAtEnd v → ⊥) → step_lines r most ≡ walk_lines r count
+      step_not_to_end h =
+          let l = not_all r (can_walk u s) count step_within (λ e. h (stands_at u count v c ∙ e ∙ sym its_end)) in
+          let none : end_lines r count ≡ [] = rw (ne_eqb count (steps_ahead r) (λ e. omega arith)) refl in
+          step_lines_are go ∙ ap (λ ls. walk_lines r count ++ ls) none ∙ append-nil (walk_lines r count)
 
-module _ (b : BookValue) (x : WorkerValue) (k : CanWalk x.runner) (breaks : List Break) where
-  pub run_refused_made : x.runner.position ≡ end_of x.runner.branch.hi → work b x ≡ forward (run_count breaks x.runner) (work b x)
-  run_refused_made e =
-      let h = none_ahead x.runner k e in
-      let none : 0 ≡ run_count breaks x.runner = rw h refl in
-      ap (λ n. forward n (work b x)) none
+  -- ---- `run`
 
-  pub run_refused_lines : x.runner.position ≡ end_of x.runner.branch.hi → run_lines breaks x.runner ≡ debug_refusal AtEnd ∷ []
-  run_refused_lines e = let h = none_ahead x.runner k e in rw h refl
+  module _ (breaks : List Break) where
+    pub run_refused : {X E : Type 0} (result : Result X E) → IsAtEnd u → PlaysWalk result u.book u.worker (run_count breaks r) u.book u.worker
+    run_refused result e = let h = none_ahead r (can_walk u s) e in none_plays result u (run_count breaks r) (rw h refl)
 
-  -- the lines where it isn't refused, over the book's problem
-  pub run_lines_are : (x.runner.position ≡ end_of x.runner.branch.hi → ⊥) → (p : ProblemValue) → p ≡ x.runner.problem → (met : Option Break)
-      → met ≡ first_met x.runner.problem breaks (state_on x.runner (run_count breaks x.runner))
-      → run_lines breaks x.runner ≡ walk_lines x.runner (run_count breaks x.runner) ++ stop_line p.names met ∷ []
-  run_lines_are go p h met m =
-      let l = some_ahead x.runner k go in
-      let e = ne_eqb (steps_ahead x.runner) 0 (λ z. omega arith) in
-      let lines : run_lines breaks x.runner ≡ walk_lines x.runner (run_count breaks x.runner) ++ stop_line x.runner.problem.names (first_met x.runner.problem breaks (state_on x.runner (run_count breaks x.runner))) ∷ [] = rw e refl in
-      lines ∙ ap₂ (λ (q : ProblemValue) o. walk_lines x.runner (run_count breaks x.runner) ++ stop_line q.names o ∷ []) (sym h) (sym m)
+    pub run_refused_lines : IsAtEnd u → run_lines breaks r ≡ debug_refusal AtEnd ∷ []
+    run_refused_lines e = let h = none_ahead r (can_walk u s) e in rw h refl
 
-  -- what is met is a breakpoint of the book's problem
-  pub met_is_break : (p q : ProblemValue) → p ≡ q → list_all (is_break q) breaks ≡ true → (s : StateValue) (met : Option Break) → met ≡ first_met x.runner.problem breaks s → IfSome met (λ o. is_break p o ≡ true)
-  met_is_break p q e h s met m =
-      subst (λ o. IfSome o (λ v. is_break p v ≡ true)) (sym m) (found_passes (is_break p) (meets x.runner.problem s) breaks (ap (λ r. list_all (is_break r) breaks) e ∙ h))
+    module _ (v : AtWork) (led : LeadsTo u (walk_acts (run_count breaks r) (begun u)) v) where
+      pub run_came : Came u (run_count breaks r) v
+      run_came = came_to u s (run_count breaks r) v (run_within breaks r) led
 
--- nothing was gone
-pub none_gone : (a : AtWork) (most : ℕ) → IsPartWay a a most
-none_gone a most = record { steps = 0; within = omega arith; left = inl refl }
+      -- the book's problem stays the runner's
+      pub run_problem : v.book.problem ≡ r.problem
+      run_problem = sym run_came.sound.holds.problem ∙ ap (λ (w : WorkerValue). w.runner.problem) run_came.at
+
+    -- the lines where it isn't refused, over the book's problem
+    pub run_lines_are : (IsAtEnd u → ⊥) → (p : ProblemValue) → p ≡ r.problem → (met : Option Break)
+        → met ≡ first_met r.problem breaks (state_on r (run_count breaks r))
+        → run_lines breaks r ≡ walk_lines r (run_count breaks r) ++ stop_line p.names met ∷ []
+    run_lines_are go p h met m =
+        let l = some_ahead r (can_walk u s) go in
+        let e = ne_eqb (steps_ahead r) 0 (λ z. omega arith) in
+        let lines : run_lines breaks r ≡ walk_lines r (run_count breaks r) ++ stop_line r.problem.names (first_met r.problem breaks (state_on r (run_count breaks r))) ∷ [] = rw e refl in
+        lines ∙ ap₂ (λ (q : ProblemValue) o. walk_lines r (run_count breaks r) ++ stop_line q.names o ∷ []) (sym h) (sym m)
+
+    -- what is met is a breakpoint of the book's problem
+    pub met_is_break : (p q : ProblemValue) → p ≡ q → list_all (is_break q) breaks ≡ true → (t : StateValue) (met : Option Break)
+        → met ≡ first_met r.problem breaks t → IfSome met (λ o. is_break p o ≡ true)
+    met_is_break p q e h t met m =
+        subst (λ o. IfSome o (λ v. is_break p v ≡ true)) (sym m) (found_passes (is_break p) (meets r.problem t) breaks (ap (λ x. list_all (is_break x) breaks) e ∙ h))

@@ -1,6 +1,6 @@
 -- Steps onward from a state: where they lead, what is left ahead, and which visits lie between.
-use Rattle.std.proofs.Common.{◌≡◌, ℕ, suc, ◌+◌, ◌-◌, ◌<◌, ◌≤◌, ◌⊎◌, inl, inr, [], ◌++◌, map, refl, sym, ◌∙◌, ap, subst, arith}
-use Rattle.std.proofs.lemmas.Bool.{cases_lt}
+use Rattle.std.proofs.Common.{◌≡◌, ℕ, suc, ◌+◌, ◌-◌, ◌<◌, ◌≤◌, ◌==◌, ◌⊎◌, inl, inr, Bool, true, false, IsTrue, ◌↔◌, [], ◌++◌, map, refl, sym, ◌∙◌, ap, arith, eq-eqb}
+use Rattle.std.proofs.lemmas.Bool.{cases_lt, ne_eqb, false≢true}
 use Rattle.std.proofs.lemmas.List.{map-append}
 use Rattle.text_lines.specs.Writing.{text_of}
 use Rattle.cover_problem.specs.Problem.{ProblemValue}
@@ -10,16 +10,10 @@ use Rattle.x_steps.specs.Steps.{Fits}
 use Rattle.x_steps.specs.Run.{after, steps_between, visits_between, ReachesIn}
 use Rattle.x_steps.specs.Rank.{rank}
 use Rattle.x_steps.proofs.RunLemmas.{after_fits, after_add, leads_to, steps_between_is}
-use Rattle.x_steps.proofs.BetweenLemmas.{steps_between_self, visits_between_self, visits_between_next, visits_between_join}
-use Rattle.x_steps.proofs.StretchLemmas.{reached_fits, reached_rank}
+use Rattle.x_steps.proofs.BetweenLemmas.{steps_between_self, visits_between_self, visits_between_join}
+use Rattle.x_steps.proofs.StretchLemmas.{reached_rank}
 use Rattle.x_branches.specs.Branch.{end_of}
-use Rattle.x_branches.specs.Runner.{RunnerValue, IsRunner, visit_of}
-use Rattle.x_branches.proofs.RunnerLemmas.{not_before}
-use Rattle.lab_book.specs.Tile.{TileValue, mark_of, tile_end, IsTile}
-use Rattle.lab_book.specs.Tiling.{IsTiling, tile_at}
-use Rattle.lab_book.specs.Book.{BookValue}
-use Rattle.lab_book.proofs.TilingLemmas.{tile_in}
-use Rattle.lab_world.specs.Worker.{WorkerValue, HoldsTile}
+use Rattle.x_branches.specs.Runner.{RunnerValue}
 use Rattle.x_texts.specs.Words.{visit_words}
 use Rattle.debug_acts.specs.Walk.{steps_ahead, state_on, visit_lines}
 use Rattle.debug_views.proofs.LineLemmas.{more_lines}
@@ -29,25 +23,6 @@ pub record CanWalk (r : RunnerValue) : Type 0 where
   pub fits : Fits r.problem r.position
   pub end_fits : Fits r.problem (end_of r.branch.hi)
   pub up : rank r.problem r.position ≤ rank r.problem (end_of r.branch.hi)
-
--- a worker that holds its tile can
-pub can_walk : (b : BookValue) (x : WorkerValue) → IsTiling b.problem b.branch b.first b.tiles → HoldsTile b x → IsRunner x.runner → CanWalk x.runner
-can_walk b x tiling h k = record { fits = fits; end_fits = end_fits; up = not_before x.runner.problem (end_of x.runner.branch.hi) x.runner.position end_fits fits k.position_in.not_past }
-  where
-    own : TileValue
-    own = tile_at b.tiles h.tile.place
-
-    own_is_tile : IsTile b.problem (tile_at b.tiles h.tile.place)
-    own_is_tile = tile_in b.problem b.branch.lo b.first b.tiles b.branch.hi h.tile.place tiling.tiles h.tile.within
-
-    its_end : Fits b.problem (tile_end (tile_at b.tiles h.tile.place))
-    its_end = reached_fits b.problem (mark_of (tile_at b.tiles h.tile.place)) (tile_end (tile_at b.tiles h.tile.place)) _ own_is_tile.within.fits own_is_tile.within.reaches
-
-    end_fits : Fits x.runner.problem (end_of x.runner.branch.hi)
-    end_fits = subst (λ p. Fits p (end_of x.runner.branch.hi)) (sym h.problem) (subst (λ c. Fits b.problem (end_of c.hi)) (sym h.tile.tile.branch) its_end)
-
-    fits : Fits x.runner.problem x.runner.position
-    fits = reached_fits x.runner.problem x.runner.mark x.runner.position _ k.stretch.fits k.stretch.reaches
 
 -- n steps, and then m
 on_more : (p : ProblemValue) (m n : ℕ) (s : StateValue) → after p m (after p n s) ≡ after p (n + m) s
@@ -94,17 +69,20 @@ module _ (r : RunnerValue) (k : CanWalk r) where
           let e : n ≡ steps_ahead r = omega arith in
           absurd (h (ap (λ i. after r.problem i r.position) e ∙ to_end.ends))
 
-  -- no visits yet, and those of one step more
+  -- at its branch's end nothing is ahead, and elsewhere some steps are
+  pub none_ahead : r.position ≡ end_of r.branch.hi → steps_ahead r ≡ 0
+  none_ahead e = sym (all_gone 0 (omega arith) e)
+
+  pub some_ahead : (r.position ≡ end_of r.branch.hi → ⊥) → 0 < steps_ahead r
+  some_ahead h = not_all 0 (omega arith) h
+
+  pub end_tells : (test : Bool) → IsTrue test ↔ (r.position ≡ end_of r.branch.hi) → (steps_ahead r == 0) ≡ test
+  end_tells true d = eq-eqb (steps_ahead r) 0 (none_ahead (d.0 refl))
+  end_tells false d = let l = some_ahead (λ e. false≢true (d.1 e)) in ne_eqb (steps_ahead r) 0 (λ e. omega arith)
+
+  -- no visits yet
   pub no_lines : visit_lines r.problem r.position (state_on r 0) ≡ []
   no_lines = ap (map visit_words) (visits_between_self r.problem r.position k.fits)
-
-  pub lines_next : (n : ℕ) → n < steps_ahead r → text_of (visit_lines r.problem r.position (state_on r (suc n)))
-      ≡ text_of (visit_lines r.problem r.position (state_on r n)) ++ text_of (map visit_words (visit_of r.problem (state_on r n)))
-  lines_next n l =
-      let up = reached_rank r.problem r.position (state_on r n) n k.fits (record { ends = refl; goes_on = λ i m. to_end.goes_on i (omega arith) }) in
-      let more = visits_between_next r.problem r.position (state_on r n) k.fits (on_fits n) up (on_goes_on n l) in
-      ap text_of (ap (map visit_words) more ∙ map-append visit_words (visits_between r.problem r.position (state_on r n)) (visit_of r.problem (state_on r n)))
-      ∙ more_lines (visit_lines r.problem r.position (state_on r n)) (map visit_words (visit_of r.problem (state_on r n)))
 
   -- so many steps from where n were gone
   on_from : (n m : ℕ) → n + m ≤ steps_ahead r → ReachesIn r.problem (state_on r n) (state_on r (n + m)) m

@@ -1,36 +1,96 @@
--- A branch at work posts, steps on and steps back, as worker 0 does by its acts; and so do some first ones of them.
-use Rattle.std.proofs.Common.{◌≡◌, ℕ, zero, suc, ◌+◌, ◌-◌, ◌≤◌, ◌<◌, ◌==◌, ◌⊎◌, inl, inr, Bool, true, false, cond, Some, Result, Ok, Err, List, [], ◌∷◌, ◌++◌, length, take, replicate, OnOk, OnErr, refl, sym, ap, ◌∙◌, subst, arith, append_assoc, append-nil}
-use Rattle.std.proofs.Math.Seq.{take-append_seam}
-use Rattle.std.proofs.lemmas.List.{length-append, length-replicate, replicate_more, take-replicate}
+-- A branch at work posts and steps on, as worker 0 does by its acts: where so many steps lead, and how many of them are first ones of others.
+use Rattle.std.proofs.Common.{◌≡◌, ℕ, zero, suc, ◌+◌, ◌-◌, ◌*◌, ◌≤◌, ◌<◌, ◌==◌, inl, inr, Bool, true, false, cond, Option, Some, Result, Ok, Err, List, [], ◌∷◌, ◌++◌, length, take, unwrap_or, refl, sym, ap, ap₂, ◌∙◌, subst, arith, append_assoc, append-nil, eqb-true, eq-eqb, le_refl}
+use Rattle.std.specs.Result.{IsErrAnd}
+use Rattle.std.proofs.Math.Seq.{take-append-add, take-length}
+use Rattle.std.proofs.lemmas.List.{length-append, take-append-le, map-append}
 use Rattle.cover_problem.proofs.ProblemLemmas.{is_same_decides}
 use Rattle.x_steps.specs.Steps.{next}
 use Rattle.x_steps.specs.Run.{steps_between}
 use Rattle.x_steps.proofs.BetweenLemmas.{steps_between_self}
 use Rattle.x_branches.specs.Branch.{end_of}
 use Rattle.x_branches.specs.Refusals.{most_steps}
-use Rattle.x_branches.specs.Runner.{IsRunner, unposted_steps}
+use Rattle.x_branches.specs.Runner.{RunnerValue, unposted_steps}
+use Rattle.lab_history.specs.declared.fault.BookFault.{BookFault}
+use Rattle.lab_history.specs.declared.entry.Reply.TheVariants as reply
 use Rattle.lab_history.specs.declared.entry.Call.{Call}
 use Rattle.lab_history.specs.declared.entry.Call.TheVariants as call
 use Rattle.lab_book.specs.States.{same_state}
 use Rattle.lab_book.specs.Book.{BookValue, Outcome, outcome, book_step}
-use Rattle.lab_book.specs.Calls.{post_of}
+use Rattle.lab_book.specs.declared.lease.Posted.{Posted}
+use Rattle.lab_book.specs.Calls.{Posts, PostRefused, post_of}
 use Rattle.lab_book.proofs.TileLemmas.{same_state_is}
 use Rattle.lab_world.specs.declared.event.Act.{Act}
-use Rattle.lab_world.specs.declared.event.Act.TheVariants.{Step, Back, Post}
-use Rattle.lab_world.specs.Worker.{WorkerValue, unposted, moved_to, after_post}
-use Rattle.lab_world.specs.World.{WorldValue, turn_of, worker_at, played}
-use Rattle.lab_world.specs.Alone.{alone, own_events, Leads}
-use Rattle.lab_world.proofs.AloneLemmas.{one_act, then_acts}
-use Rattle.debug_acts.specs.Walk.{steps_ahead, state_on, post_call, work_posted, with_room, step_forward, forward, IsPartWay, state_back, IsPartBack, KeepsLease}
-use Rattle.debug_acts.specs.Acts.{step_acts, walk_acts, LeadsPart}
-use Rattle.debug_acts.specs.Work.{AtWork, work}
-use Rattle.debug_acts.proofs.PostLemmas.{granted}
-use Rattle.debug_acts.proofs.BackLemmas.{none_back, back_next, all_back}
-use Rattle.debug_acts.proofs.ForwardLemmas.{can_walk, ahead_is}
-use Rattle.debug_acts.proofs.WalkLemmas.{on_problem, on_branch, on_position}
-use Rattle.debug_acts.proofs.SoundLemmas.{IsWork, here_fits, room_work, forward_work}
+use Rattle.lab_world.specs.declared.event.Act.TheVariants.{Step, Post}
+use Rattle.lab_world.specs.declared.event.WorldEvent.{WorldEvent}
+use Rattle.lab_world.specs.Worker.{WorkerValue, unposted, after_post, moved_to, marked_at}
+use Rattle.lab_world.specs.World.{WorldValue, turn_of, worker_at, world_step, played}
+use Rattle.lab_world.specs.Alone.{alone, own_event, own_events, Leads}
+use Rattle.lab_world.proofs.AloneLemmas.{one_act, then_acts, turn_problem}
+use Rattle.debug_acts.specs.Walk.{steps_ahead, state_on}
+use Rattle.debug_acts.specs.Acts.{step_acts, room_acts, walk_acts, LeadsSome, LeadsPart, PlaysSome, Plays, WalksPart}
+use Rattle.debug_acts.proofs.ForwardLemmas.{ahead_is}
+use Rattle.debug_acts.proofs.WorkLemmas.{AtWork, work, post_call, work_posted, IsWork, here_fits, granted, posted_work, moved_work, next_runner, one_unposted, can_walk}
 
--- from one branch at work to another
+-- ---- some first ones of acts
+
+module _ (b c : BookValue) (x y : Option WorkerValue) where
+  -- of these acts, and so of more
+  pub part_more : (xs ys acts : List Act) (most : ℕ) → acts ≡ xs ++ ys → most ≤ length xs → LeadsSome b x xs most c y → LeadsPart b x acts c y
+  part_more xs ys acts most e l p = record {
+    count = p.count;
+    within = let m = p.within in let n = length-append xs ys in let f = ap {B = ℕ} length e in omega arith;
+    leads = let m = p.within in
+        subst (λ (zs : List Act). Leads b x zs c y) (sym (ap (take p.count) e ∙ take-append-le p.count xs ys (omega arith))) p.leads;
+  }
+
+  -- all of them
+  pub all_part : (acts : List Act) → Leads b x acts c y → LeadsPart b x acts c y
+  all_part acts l = record {
+    count = length acts;
+    within = le_refl (length acts);
+    leads = subst (λ (zs : List Act). Leads b x zs c y) (sym (take-length acts)) l;
+  }
+
+  -- none of them
+  pub none_part : (acts : List Act) (most : ℕ) → c ≡ b → y ≡ x → LeadsSome b x acts most c y
+  none_part acts most e f = record { count = 0; within = omega arith; leads = ap₂ alone (sym e) (sym f) }
+
+  -- what a call says that has played all
+  pub plays_all : {X E : Type 0} (r : Result X E) (acts : List Act) → Leads b x acts c y → Plays r b x acts c y
+  plays_all (Ok z) acts l = (l, tt)
+  plays_all (Err z) acts l = (tt, all_part acts l)
+
+  -- and one that ends by an error
+  pub plays_err : {X E : Type 0} (Q : E → Type 0) (r : Result X E) (acts : List Act) (most : ℕ) → IsErrAnd r Q → LeadsSome b x acts most c y
+      → PlaysSome r b x acts most c y
+  plays_err Q (Ok z) acts most h p = absurd h
+  plays_err Q (Err z) acts most h p = (tt, p)
+
+-- the first ones of these acts, and then of others
+pub part_then : (b c d : BookValue) (x y z : Option WorkerValue) (xs ys : List Act) → Leads b x xs c y → LeadsPart c y ys d z
+    → LeadsPart b x (xs ++ ys) d z
+part_then b c d x y z xs ys l p = record {
+  count = length xs + p.count;
+  within = let m = p.within in let n = length-append xs ys in omega arith;
+  leads = subst (λ (zs : List Act). Leads b x zs d z) (sym (take-append-add xs ys p.count))
+      (then_acts b c d x y z xs (take p.count ys) l p.leads);
+}
+
+-- acts leave a book's problem
+acts_problem : (acts : List Act) (b : BookValue) (x : Option WorkerValue) → (played (alone b x) (own_events acts)).book.problem ≡ b.problem
+acts_problem [] b x = refl
+acts_problem (a ∷ acts) b x = acts_problem acts (turn_of b x 0 a).book (turn_of b x 0 a).worker ∙ turn_problem b x 0 a
+
+leads_problem : (b c : BookValue) (x y : Option WorkerValue) (acts : List Act) → Leads b x acts c y → c.problem ≡ b.problem
+leads_problem b c x y acts l = ap (λ (v : WorldValue). v.book.problem) (sym l) ∙ acts_problem acts b x
+
+pub plays_problem : {X E : Type 0} (r : Result X E) (b c : BookValue) (x y : Option WorkerValue) (acts : List Act) (most : ℕ)
+    → PlaysSome r b x acts most c y → c.problem ≡ b.problem
+plays_problem (Ok z) b c x y acts most p = leads_problem b c x y acts p.0
+plays_problem (Err z) b c x y acts most p = leads_problem b c x y (take p.1.count acts) p.1.leads
+
+-- ---- from one branch at work to another
+
 abbrev pub LeadsTo : AtWork → List Act → AtWork → Type 0
 LeadsTo u acts v = Leads u.book (Some u.worker) acts v.book (Some v.worker)
 
@@ -38,9 +98,35 @@ LeadsTo u acts v = Leads u.book (Some u.worker) acts v.book (Some v.worker)
 pub then_to : (u v w : AtWork) (xs ys : List Act) → LeadsTo u xs v → LeadsTo v ys w → LeadsTo u (xs ++ ys) w
 then_to u v w xs ys p q = then_acts u.book v.book w.book (Some u.worker) (Some v.worker) (Some w.worker) xs ys p q
 
+-- acts lead to one
+pub one_end : (u v w : AtWork) (acts : List Act) → LeadsTo u acts v → LeadsTo u acts w → v ≡ w
+one_end u v w acts p q = ap (found v.worker) (sym p ∙ q)
+  where
+    found : WorkerValue → WorldValue → AtWork
+    found d x = work x.book (unwrap_or (worker_at x.workers 0) d)
+
+-- its world
+abbrev pub begun : AtWork → WorldValue
+begun u = alone u.book (Some u.worker)
+
+-- where a stretch that is full is posted
+abbrev pub with_room : AtWork → AtWork
+with_room u = cond (unposted_steps u.worker.runner == most_steps) (work_posted u) u
+
+-- one step onward, from where there is room
+abbrev pub forth : AtWork → AtWork
+forth u = work u.book (moved_to u.worker (next u.worker.runner.problem u.worker.runner.position))
+
+-- how many steps were posted, where each entry of the history posts a full stretch, and how many weren't
+abbrev pub spent : AtWork → ℕ
+spent u = most_steps * length u.book.history + unposted_steps u.worker.runner
+
 module _ (u : AtWork) (s : IsWork u) where
   abbrev x : WorkerValue
   x = u.worker
+
+  abbrev is_full : Bool
+  is_full = unposted_steps x.runner == most_steps
 
   -- ---- what isn't posted is posted
 
@@ -52,7 +138,68 @@ module _ (u : AtWork) (s : IsWork u) where
   post_leads =
       one_act u.book (work_posted u).book (Some x) (Some (work_posted u).worker) Post (ap (book_step u.book x.grant.worker) same_call)
       (ap (λ (c : Call). after_post x (outcome u.book x.grant.worker c).reply) same_call
-      ∙ ap (λ (o : Outcome). after_post x o.reply) (granted u.book x s.tiling s.holds s.runner))
+      ∙ ap (λ (o : Outcome). after_post x o.reply) (granted u s))
+
+  pub room_leads : LeadsTo u (room_acts x) (with_room u)
+  room_leads = by is_full
+    where
+      by : (v : Bool) → LeadsTo u (cond v (Post ∷ []) []) (cond v (work_posted u) u)
+      by true = post_leads
+      by false = refl
+
+  pub room_work : IsWork (with_room u)
+  room_work = by is_full
+    where
+      by : (v : Bool) → IsWork (cond v (work_posted u) u)
+      by true = posted_work u s
+      by false = s
+
+  pub room_worker : (with_room u).worker ≡ marked_at x (with_room u).worker.runner.mark
+  unfolding work_posted
+  room_worker = by is_full
+    where
+      by : (v : Bool) → (cond v (work_posted u) u).worker ≡ marked_at x (cond v (work_posted u) u).worker.runner.mark
+      by true = refl
+      by false = refl
+
+  -- a stretch that is full is posted, or nothing is
+  pub room_made : unposted_steps x.runner ≡ most_steps → (new : BookValue) (y : WorkerValue) (r : Posted)
+      → Posts u.book new x.grant (unposted x) r → y ≡ marked_at x x.runner.position → LeadsTo u (room_acts x) (work new y)
+  unfolding work_posted
+  room_made full new y r m e =
+      let posted : work new y ≡ work_posted u = rw (m.book, same_call, e) refl in
+      let f = eq-eqb (unposted_steps x.runner) most_steps full in
+      rw f (subst (LeadsTo u (Post ∷ [])) (sym posted) post_leads)
+
+  pub room_refused : (new : BookValue) (f : BookFault) → PostRefused u.book new x.grant (unposted x) f → new ≡ u.book
+  room_refused new f (inl kept) = kept.1
+  room_refused new f (inr made) =
+      absurd (not_refused (sym (ap (λ o. o.reply) (ap (outcome u.book x.grant.worker) same_call ∙ granted u s)) ∙ sym made.1.reply))
+    where
+      not_refused : {t : Bool} {n : ℕ} → reply.Posted t n ≡ reply.Refused f → ⊥
+      not_refused e = cc
+
+  none_unposted : unposted_steps (work_posted u).worker.runner ≡ 0
+  unfolding work_posted
+  none_unposted = steps_between_self x.runner.problem x.runner.position (here_fits u s)
+
+  room_free : (unposted_steps (with_room u).worker.runner == most_steps) ≡ false
+  room_free = by is_full refl
+    where
+      by : (v : Bool) → is_full ≡ v → (unposted_steps (cond v (work_posted u) u).worker.runner == most_steps) ≡ false
+      by true e = ap (λ (n : ℕ). n == most_steps) none_unposted
+      by false e = e
+
+  posted_entries : length (work_posted u).book.history ≡ length u.book.history + 1
+  unfolding work_posted
+  posted_entries = length-append u.book.history _
+
+  room_spent : spent (with_room u) ≡ spent u
+  room_spent = by is_full refl
+    where
+      by : (v : Bool) → is_full ≡ v → spent (cond v (work_posted u) u) ≡ spent u
+      by true e = let full = eqb-true (unposted_steps x.runner) most_steps e in let n = none_unposted in let m = posted_entries in omega arith
+      by false e = refl
 
   -- ---- one step
 
@@ -69,224 +216,122 @@ module _ (u : AtWork) (s : IsWork u) where
           absurd (omega arith)
 
   -- where there is room for it
-  pub step_leads : 0 < steps_ahead x.runner → (unposted_steps x.runner == most_steps) ≡ false
-      → LeadsTo u (Step ∷ []) (work u.book (moved_to x (next x.runner.problem x.runner.position)))
+  step_leads : 0 < steps_ahead x.runner → is_full ≡ false → LeadsTo u (Step ∷ []) (forth u)
   unfolding turn_of
   step_leads some room =
       let ahead = not_ended some in
-      let moved = moved_to x (next x.runner.problem x.runner.position) in
-      one_act u.book u.book (Some x) (Some moved) Step (rw (ahead, room) refl) (rw (ahead, room) refl)
+      one_act u.book u.book (Some x) (Some (forth u).worker) Step (rw (ahead, room) refl) (rw (ahead, room) refl)
 
--- what a step is: one act, or two of which the first makes room
-pub data StepWay (u : AtWork) : Type 0 where
-  Alone : step_acts (Some u.worker) ≡ Step ∷ [] → with_room u ≡ u → StepWay u
-  After : step_acts (Some u.worker) ≡ Post ∷ Step ∷ [] → LeadsTo u (Post ∷ []) (with_room u) → StepWay u
-
-pub step_way : (u : AtWork) → IsWork u → StepWay u
-step_way u s = by (unposted_steps u.worker.runner == most_steps) refl
+-- the acts of a step
+pub step_is : (w : WorkerValue) → step_acts (Some w) ≡ room_acts w ++ Step ∷ []
+step_is w = by (unposted_steps w.runner == most_steps)
   where
-    by : (b : Bool) → (unposted_steps u.worker.runner == most_steps) ≡ b → StepWay u
-    by false e = Alone (rw e refl) (rw e refl)
-    by true e = After (rw e refl) (subst (λ (b : Bool). LeadsTo u (Post ∷ []) (cond b (work_posted u) u)) (sym e) (post_leads u s))
+    by : (v : Bool) → cond v (Post ∷ Step ∷ []) (Step ∷ []) ≡ cond v (Post ∷ []) [] ++ Step ∷ []
+    by true = refl
+    by false = refl
 
-pub stepped_leads : (u : AtWork) → IsWork u → 0 < steps_ahead u.worker.runner → LeadsTo u (step_acts (Some u.worker)) (step_forward u)
-unfolding step_forward work_posted
-stepped_leads u s some = by (unposted_steps u.worker.runner == most_steps) refl
-  where
-    by : (b : Bool) → (unposted_steps u.worker.runner == most_steps) ≡ b
-        → LeadsTo u (cond b (Post ∷ Step ∷ []) (Step ∷ []))
-        (work (cond b (work_posted u) u).book
-        (moved_to (cond b (work_posted u) u).worker (next u.worker.runner.problem u.worker.runner.position)))
-    by false e = step_leads u s some e
-    by true e =
-        let sound = subst (λ (b : Bool). IsWork (cond b (work_posted u) u)) e (room_work u s) in
-        let none = steps_between_self u.worker.runner.problem u.worker.runner.position (here_fits u s) in
-        then_acts u.book (work_posted u).book (work_posted u).book (Some u.worker) (Some (work_posted u).worker)
-        (Some (moved_to (work_posted u).worker (next u.worker.runner.problem u.worker.runner.position))) (Post ∷ []) (Step ∷ [])
-        (post_leads u s) (step_leads (work_posted u) sound some (ap (λ (n : ℕ). n == most_steps) none))
+module _ (u : AtWork) (s : IsWork u) (some : 0 < steps_ahead u.worker.runner) where
+  ahead_still : 0 < steps_ahead (with_room u).worker.runner
+  ahead_still = let e = ap (λ (w : WorkerValue). steps_ahead w.runner) (room_worker u s) in omega arith
+
+  one_step : LeadsTo u (step_acts (Some u.worker)) (forth (with_room u))
+  one_step =
+      subst (λ (acts : List Act). LeadsTo u acts (forth (with_room u))) (sym (step_is u.worker))
+      (then_to u (with_room u) (forth (with_room u)) (room_acts u.worker) (Step ∷ []) (room_leads u s)
+      (step_leads (with_room u) (room_work u s) ahead_still (room_free u s)))
+
+  step_work : IsWork (forth (with_room u))
+  step_work = moved_work (with_room u) (room_work u s) _ (next_runner (with_room u) (room_work u s) ahead_still)
+
+  one_spent : spent (forth (with_room u)) ≡ suc (spent u)
+  one_spent = let n = one_unposted (with_room u) (room_work u s) ahead_still in let m = room_spent u s in omega arith
 
 -- ---- many steps
 
+-- where n steps lead: to a branch at work that stands n steps on
+pub record Came (u : AtWork) (n : ℕ) (v : AtWork) : Type 0 where
+  pub leads : LeadsTo u (walk_acts n (begun u)) v
+  pub at : v.worker ≡ marked_at (moved_to u.worker (state_on u.worker.runner n)) v.worker.runner.mark
+  pub sound : IsWork v
+  pub counted : spent v ≡ n + spent u
+
 module _ (u : AtWork) (s : IsWork u) where
-  abbrev begun : WorldValue
-  begun = alone u.book (Some u.worker)
+  abbrev run : RunnerValue
+  run = u.worker.runner
 
-  -- the last of them
-  last_acts : (n : ℕ) → LeadsTo u (walk_acts n begun) (forward n u)
-      → walk_acts (suc n) begun ≡ walk_acts n begun ++ step_acts (Some (forward n u).worker)
-  last_acts n led = ap (λ (v : WorldValue). walk_acts n begun ++ step_acts (worker_at v.workers 0)) led
+  abbrev acts : ℕ → List Act
+  acts n = walk_acts n (begun u)
 
-  some_ahead : (n : ℕ) → suc n ≤ steps_ahead u.worker.runner → 0 < steps_ahead (forward n u).worker.runner
-  some_ahead n l =
-      let r = u.worker.runner in
-      let can = can_walk u.book u.worker s.tiling s.holds s.runner in
-      let ahead : steps_ahead (forward n u).worker.runner ≡ steps_between r.problem (state_on r n) (end_of r.branch.hi) =
-      (λ j. steps_between (on_problem n u j) (on_position n u j) (end_of (on_branch n u j).hi)) in
-      let rest = ahead_is r can n (omega arith) in
-      omega arith
+  -- the acts of one step more
+  pub next_acts : (n : ℕ) (v : AtWork) → LeadsTo u (acts n) v → acts (suc n) ≡ acts n ++ step_acts (Some v.worker)
+  next_acts n v l = ap (λ (w : WorldValue). acts n ++ step_acts (worker_at w.workers 0)) l
 
-  pub forward_leads : (n : ℕ) → n ≤ steps_ahead u.worker.runner → LeadsTo u (walk_acts n begun) (forward n u)
-  forward_leads zero l = refl
-  forward_leads (suc n) l =
-      let led = forward_leads n (omega arith) in
-      let one = stepped_leads (forward n u) (forward_work u s n (omega arith)) (some_ahead n l) in
-      subst (λ (acts : List Act). LeadsTo u acts (forward (suc n) u)) (sym (last_acts n led))
-      (then_to u (forward n u) (forward (suc n) u) (walk_acts n begun) (step_acts (Some (forward n u).worker)) led one)
+  -- what is left ahead
+  pub left_ahead : (n : ℕ) (v : AtWork) → Came u n v → n ≤ steps_ahead run → steps_ahead v.worker.runner ≡ steps_ahead run - n
+  left_ahead n v c l = ap (λ (w : WorkerValue). steps_ahead w.runner) c.at ∙ ahead_is run (can_walk u s) n l
 
-  -- ---- some first ones
+  -- a worker a step on
+  abbrev on : WorkerValue → WorkerValue
+  on w = moved_to w (next w.runner.problem w.runner.position)
 
-  -- fewer steps are the first acts of more
-  first_acts : (m n : ℕ) → (rest : List Act) × (walk_acts (m + n) begun ≡ walk_acts n begun ++ rest)
-  first_acts zero n = let e : zero + n ≡ n = omega arith in ([], ap (λ (k : ℕ). walk_acts k begun) e ∙ sym (append-nil (walk_acts n begun)))
-  first_acts (suc m) n =
-      let q = first_acts m n in
-      let e : suc m + n ≡ suc (m + n) = omega arith in
-      let more = step_acts (worker_at (played begun (own_events (walk_acts (m + n) begun))).workers 0) in
-      (q.0 ++ more, ap (λ (k : ℕ). walk_acts k begun) e ∙ ap (λ (acts : List Act). acts ++ more) q.1 ∙ append_assoc (walk_acts n begun) q.0 more)
+  came_next : (n : ℕ) (v : AtWork) → Came u n v → n < steps_ahead run → Came u (suc n) (forth (with_room v))
+  came_next n v c l =
+      let some : 0 < steps_ahead v.worker.runner = let e = left_ahead n v c (omega arith) in omega arith in
+      record {
+        leads = subst (λ (xs : List Act). LeadsTo u xs (forth (with_room v))) (sym (next_acts n v c.leads))
+            (then_to u v (forth (with_room v)) (acts n) (step_acts (Some v.worker)) c.leads (one_step v c.sound some));
+        at = ap on (room_worker v c.sound) ∙ ap (λ (w : WorkerValue). marked_at (on w) (with_room v).worker.runner.mark) c.at;
+        sound = step_work v c.sound some;
+        counted = let e = one_spent v c.sound some in let f = c.counted in omega arith;
+      }
 
-  some_of : (xs rest acts : List Act) (v : AtWork) → acts ≡ xs ++ rest → LeadsTo u xs v
-      → LeadsPart u.book (Some u.worker) acts v.book (Some v.worker)
-  some_of xs rest acts v e l = record {
-    count = length xs;
-    within = let n = length-append xs rest in let f = ap {B = ℕ} length e in omega arith;
-    leads = subst (λ (ys : List Act). LeadsTo u ys v) (sym (ap (take (length xs)) e ∙ take-append_seam xs rest)) l;
-  }
+  came : (n : ℕ) → n ≤ steps_ahead run → (v : AtWork) × Came u n v
+  came zero l = (u, record { leads = refl; at = refl; sound = s; counted = omega arith })
+  came (suc n) l = let q = came n (omega arith) in (forth (with_room q.0), came_next n q.0 q.1 (omega arith))
 
-  pub part_leads : (most : ℕ) (v : AtWork) → most ≤ steps_ahead u.worker.runner → IsPartWay u v most
-      → LeadsPart u.book (Some u.worker) (walk_acts most begun) v.book (Some v.worker)
-  part_leads most v l p = by p.left
-    where
-      led : LeadsTo u (walk_acts p.steps begun) (forward p.steps u)
-      led = let f = p.within in forward_leads p.steps (omega arith)
+  -- where their acts lead
+  pub came_to : (n : ℕ) (v : AtWork) → n ≤ steps_ahead run → LeadsTo u (acts n) v → Came u n v
+  came_to n v l p = let q = came n l in subst (Came u n) (one_end u q.0 v (acts n) q.1.leads p) q.1
 
-      rest : (n : ℕ) → n ≤ most → (xs : List Act) × (walk_acts most begun ≡ walk_acts n begun ++ xs)
-      rest n f =
-          let q = first_acts (most - n) n in
-          let e : (most - n) + n ≡ most = omega arith in
-          (q.0, ap (λ (k : ℕ). walk_acts k begun) (sym e) ∙ q.1)
+-- ---- fewer steps are first ones of more
 
-      -- before a step that makes room
-      ready : p.steps < most → v ≡ with_room (forward p.steps u) → StepWay (forward p.steps u)
-          → LeadsPart u.book (Some u.worker) (walk_acts most begun) v.book (Some v.worker)
-      ready f e (Alone a r) =
-          let q = rest p.steps (omega arith) in
-          some_of (walk_acts p.steps begun) q.0 (walk_acts most begun) v q.1
-          (subst (LeadsTo u (walk_acts p.steps begun)) (sym (e ∙ r)) led)
-      ready f e (After a r) =
-          let q = rest (suc p.steps) f in
-          let here = walk_acts p.steps begun in
-          some_of (here ++ Post ∷ []) (Step ∷ q.0) (walk_acts most begun) v
-          (q.1 ∙ ap (λ (acts : List Act). acts ++ q.0) (last_acts p.steps led ∙ ap (λ (acts : List Act). here ++ acts) a)
-          ∙ append_assoc here (Post ∷ Step ∷ []) q.0 ∙ sym (append_assoc here (Post ∷ []) (Step ∷ q.0)))
-          (subst (LeadsTo u (here ++ Post ∷ [])) (sym e)
-          (then_to u (forward p.steps u) (with_room (forward p.steps u)) here (Post ∷ []) led r))
+-- the fold of two lists of events
+played_more : (v : WorldValue) (xs ys : List WorldEvent) → played v (xs ++ ys) ≡ played (played v xs) ys
+played_more v [] ys = refl
+played_more v (x ∷ xs) ys = played_more (world_step v x).world xs ys
 
-      by : (v ≡ forward p.steps u) ⊎ ((p.steps < most) × (v ≡ with_room (forward p.steps u)))
-          → LeadsPart u.book (Some u.worker) (walk_acts most begun) v.book (Some v.worker)
-      by (inl e) =
-          let q = rest p.steps p.within in
-          some_of (walk_acts p.steps begun) q.0 (walk_acts most begun) v q.1 (subst (LeadsTo u (walk_acts p.steps begun)) (sym e) led)
-      by (inr e) =
-          let f = p.within in
-          ready e.0 e.1 (step_way (forward p.steps u) (forward_work u s p.steps (omega arith)))
+-- n steps, and then m
+pub walk_more : (m n : ℕ) (v : WorldValue) → walk_acts (m + n) v ≡ walk_acts n v ++ walk_acts m (played v (own_events (walk_acts n v)))
+walk_more zero n v = let e : zero + n ≡ n = omega arith in ap (λ (k : ℕ). walk_acts k v) e ∙ sym (append-nil (walk_acts n v))
+walk_more (suc m) n v =
+    let w = played v (own_events (walk_acts n v)) in
+    let q = walk_more m n v in
+    let e : suc m + n ≡ suc (m + n) = omega arith in
+    let there : played v (own_events (walk_acts (m + n) v)) ≡ played w (own_events (walk_acts m w)) =
+    ap (λ (xs : List Act). played v (own_events xs)) q
+    ∙ ap (played v) (map-append own_event (walk_acts n v) (walk_acts m w)) ∙ played_more v (own_events (walk_acts n v)) (own_events (walk_acts m w)) in
+    ap (λ (k : ℕ). walk_acts k v) e ∙ (λ j. q j ++ step_acts (worker_at (there j).workers 0)) ∙ append_assoc (walk_acts n v) (walk_acts m w) _
 
--- what a call says of its walk
-pub walk_made : {X E : Type 0} (r : Result X E) (u v : AtWork) (n : ℕ) → IsWork u → n ≤ steps_ahead u.worker.runner → OnOk r (v ≡ forward n u)
-    → OnOk r (Leads u.book (Some u.worker) (walk_acts n (alone u.book (Some u.worker))) v.book (Some v.worker))
-walk_made (Ok z) u v n s l e = subst (LeadsTo u (walk_acts n (alone u.book (Some u.worker)))) (sym e) (forward_leads u s n l)
-walk_made (Err z) u v n s l e = tt
+module _ (u : AtWork) (n : ℕ) (v : AtWork) (l : LeadsTo u (walk_acts n (begun u)) v) where
+  pub walk_then : (m : ℕ) → walk_acts (m + n) (begun u) ≡ walk_acts n (begun u) ++ walk_acts m (begun v)
+  walk_then m = walk_more m n (begun u) ∙ ap (λ (w : WorldValue). walk_acts n (begun u) ++ walk_acts m w) l
 
-pub walk_left : {X E : Type 0} (r : Result X E) (u v : AtWork) (n : ℕ) → IsWork u → n ≤ steps_ahead u.worker.runner → OnErr r (IsPartWay u v n)
-    → OnErr r (LeadsPart u.book (Some u.worker) (walk_acts n (alone u.book (Some u.worker))) v.book (Some v.worker))
-walk_left (Ok z) u v n s l e = tt
-walk_left (Err z) u v n s l e = part_leads u s n v l e
+  -- where m more lead
+  pub walk_join : (m : ℕ) (w : AtWork) → LeadsTo v (walk_acts m (begun v)) w → LeadsTo u (walk_acts (n + m) (begun u)) w
+  walk_join m w p =
+      let e : n + m ≡ m + n = omega arith in
+      subst (λ (xs : List Act). LeadsTo u xs w) (sym (ap (λ (k : ℕ). walk_acts k (begun u)) e ∙ walk_then m))
+      (then_to u v w (walk_acts n (begun u)) (walk_acts m (begun v)) l p)
 
--- ---- steps back
-
-module _ (b : BookValue) (x : WorkerValue) (k : IsRunner x.runner) where
-  -- the worker so many steps back
-  abbrev pub stood : ℕ → WorkerValue
-  stood n = moved_to x (state_back x.runner n)
-
-  not_mark : (n : ℕ) → n < unposted_steps x.runner → same_state (state_back x.runner n) x.runner.mark ≡ false
-  not_mark n l = by (same_state (state_back x.runner n) x.runner.mark) refl
-    where
-      by : (v : Bool) → same_state (state_back x.runner n) x.runner.mark ≡ v → v ≡ false
-      by false e = refl
-      by true e =
-          let all = all_back x.runner k n (omega arith) (same_state_is (state_back x.runner n) x.runner.mark e) in
-          absurd (omega arith)
-
-  one_back : (n : ℕ) → n < unposted_steps x.runner → Leads b (Some (stood n)) (Back ∷ []) b (Some (stood (suc n)))
-  unfolding turn_of
-  one_back n l =
-      let past = not_mark n l in
-      let next = back_next x.runner k n l in
-      one_act b b (Some (stood n)) (Some (stood (suc n))) Back (rw past refl) (rw past (ap (λ s. Some (moved_to x s)) next))
-
-  pub back_leads : (n : ℕ) → n ≤ unposted_steps x.runner → Leads b (Some x) (replicate n Back) b (Some (stood n))
-  back_leads zero l = ap (λ s. alone b (Some (moved_to x s))) (sym (none_back x.runner k))
-  back_leads (suc n) l =
-      let e : n + 1 ≡ suc n = omega arith in
-      subst (λ (acts : List Act). Leads b (Some x) acts b (Some (stood (suc n)))) (replicate_more n Back ∙ ap (λ (m : ℕ). replicate m Back) e)
-      (then_acts b b b (Some x) (Some (stood n)) (Some (stood (suc n))) (replicate n Back) (Back ∷ []) (back_leads n (omega arith))
-      (one_back n (omega arith)))
-
-  pub back_made : {X E : Type 0} (r : Result X E) (n : ℕ) (y : WorkerValue) → n ≤ unposted_steps x.runner → OnOk r (y ≡ stood n)
-      → OnOk r (Leads b (Some x) (replicate n Back) b (Some y))
-  back_made (Ok z) n y l e = subst (λ (v : WorkerValue). Leads b (Some x) (replicate n Back) b (Some v)) (sym e) (back_leads n l)
-  back_made (Err z) n y l e = tt
-
-  pub back_left : {X E : Type 0} (r : Result X E) (n : ℕ) (y : WorkerValue) → n ≤ unposted_steps x.runner → OnErr r (IsPartBack x y n)
-      → OnErr r (LeadsPart b (Some x) (replicate n Back) b (Some y))
-  back_left (Ok z) n y l p = tt
-  back_left (Err z) n y l p = record {
-    count = p.steps;
-    within = let m = length-replicate n Back in let f = p.within in omega arith;
-    leads = let f = p.within in
-        subst (λ (acts : List Act). Leads b (Some x) acts b (Some y)) (sym (take-replicate p.steps n Back p.within))
-        (subst (λ (v : WorkerValue). Leads b (Some x) (replicate p.steps Back) b (Some v)) (sym p.left) (back_leads p.steps (omega arith)));
-  }
-
--- ---- what stays
-
--- where room is made the lease and the problem stay
-room_kept : (u : AtWork) → KeepsLease u.book u.worker (with_room u).book (with_room u).worker
-unfolding work_posted
-room_kept u = by (unposted_steps u.worker.runner == most_steps)
-  where
-    by : (v : Bool) → KeepsLease u.book u.worker (cond v (work_posted u) u).book (cond v (work_posted u) u).worker
-    by true = (refl, refl)
-    by false = (refl, refl)
-
-kept_on : (u v w : AtWork) → KeepsLease u.book u.worker v.book v.worker → KeepsLease v.book v.worker w.book w.worker
-    → KeepsLease u.book u.worker w.book w.worker
-kept_on u v w p q = (q.0 ∙ p.0, q.1 ∙ p.1)
-
--- and over many steps
-forward_kept : (n : ℕ) (u : AtWork) → KeepsLease u.book u.worker (forward n u).book (forward n u).worker
-unfolding step_forward
-forward_kept zero u = (refl, refl)
-forward_kept (suc n) u =
-    let room = room_kept (forward n u) in
-    let h = forward_kept n u in
-    (room.0 ∙ h.0, room.1 ∙ h.1)
-
-same_kept : (u v w : AtWork) → w ≡ v → KeepsLease u.book u.worker v.book v.worker → KeepsLease u.book u.worker w.book w.worker
-same_kept u v w e k = subst (λ (x : AtWork). KeepsLease u.book u.worker x.book x.worker) (sym e) k
-
-pub walk_kept : {X E : Type 0} (r : Result X E) (u v : AtWork) (n : ℕ) → OnOk r (v ≡ forward n u) → OnErr r (IsPartWay u v n)
-    → KeepsLease u.book u.worker v.book v.worker
-walk_kept (Ok z) u v n e p = same_kept u (forward n u) v e (forward_kept n u)
-walk_kept (Err z) u v n e p = by p.left
-  where
-    by : (v ≡ forward p.steps u) ⊎ ((p.steps < n) × (v ≡ with_room (forward p.steps u))) → KeepsLease u.book u.worker v.book v.worker
-    by (inl h) = same_kept u (forward p.steps u) v h (forward_kept p.steps u)
-    by (inr h) =
-        same_kept u (with_room (forward p.steps u)) v h.1
-        (kept_on u (forward p.steps u) (with_room (forward p.steps u)) (forward_kept p.steps u) (room_kept (forward p.steps u)))
-
-pub back_kept : {X E : Type 0} (r : Result X E) (x y : WorkerValue) (n : ℕ) → OnOk r (y ≡ moved_to x (state_back x.runner n))
-    → OnErr r (IsPartBack x y n) → y.grant ≡ x.grant
-back_kept (Ok z) x y n e p = ap (λ (w : WorkerValue). w.grant) e
-back_kept (Err z) x y n e p = ap (λ (w : WorkerValue). w.grant) p.left
+  -- where some first acts of them do, they are first ones of more
+  pub walk_part : (m most : ℕ) (w : AtWork) → n + m ≤ most → WalksPart v.book v.worker m w.book w.worker
+      → WalksPart u.book u.worker most w.book w.worker
+  walk_part m most w f p =
+      let e : most ≡ (most - n) + n = omega arith in
+      let d : most - n ≡ (most - n - m) + m = omega arith in
+      let more = walk_more (most - n - m) m (begun v) in
+      subst (λ (xs : List Act). LeadsPart u.book (Some u.worker) xs w.book (Some w.worker))
+      (sym (ap (λ (k : ℕ). walk_acts k (begun u)) e ∙ walk_then (most - n)))
+      (part_then u.book v.book w.book (Some u.worker) (Some v.worker) (Some w.worker) (walk_acts n (begun u)) (walk_acts (most - n) (begun v)) l
+      (part_more v.book w.book (Some v.worker) (Some w.worker) (walk_acts m (begun v)) _ (walk_acts (most - n) (begun v)) _
+      (ap (λ (k : ℕ). walk_acts k (begun v)) d ∙ more) (le_refl (length (walk_acts m (begun v)))) p))

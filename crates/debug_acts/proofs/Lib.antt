@@ -1,16 +1,13 @@
-pub mod PostLemmas
-pub mod CallLemmas
-pub mod WalkLemmas
-pub mod SaveLemmas
+pub mod CountLemmas
 pub mod ForwardLemmas
-pub mod WalkedLemmas
-pub mod FarLemmas
-pub mod AnswerLemmas
-pub mod RunLemmas
-pub mod BackLemmas
-pub mod CloseLemmas
-pub mod SoundLemmas
+pub mod CallLemmas
+pub mod WorkLemmas
 pub mod LeadLemmas
+pub mod FarLemmas
+pub mod WalkedLemmas
+pub mod RunLemmas
+pub mod AnswerLemmas
+pub mod BackLemmas
 pub mod PartLemmas
-pub mod EndLemmas
+pub mod SaveLemmas
 mod ActExamples

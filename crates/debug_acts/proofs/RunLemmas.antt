@@ -1,5 +1,5 @@
--- A run to the first breakpoint: where it stops, and how its steps are counted.
-use Rattle.std.proofs.Common.{◌≡◌, ℕ, zero, suc, ◌+◌, ◌-◌, ◌*◌, ◌<◌, ◌≤◌, ◌⊎◌, ◌==◌, inl, inr, Bool, true, false, cond, not, ◌||◌, ◌&&◌, Option, Some, None, is_some, IfSome, List, [], ◌∷◌, ◌++◌, length, map, get_or, ◌^◌, refl, sym, ◌∙◌, ap, ap₂, subst, arith, le_refl, length-append}
+-- A run to the first breakpoint: where it stops, and how far it goes at once.
+use Rattle.std.proofs.Common.{◌≡◌, ℕ, zero, suc, ◌+◌, ◌-◌, ◌<◌, ◌≤◌, ◌⊎◌, ◌==◌, inl, inr, Bool, true, false, cond, not, ◌||◌, ◌&&◌, Option, Some, None, is_some, IfSome, List, [], ◌∷◌, ◌++◌, length, get_or, refl, sym, ◌∙◌, ap, ap₂, arith}
 use Rattle.std.specs.List.{find, list_any, list_all, position_or_len}
 use Rattle.std.proofs.Math.Seq.{get_or-append_seam}
 use Rattle.std.proofs.lemmas.Bool.{cases_lt, ne_eqb}
@@ -7,28 +7,30 @@ use Rattle.std.proofs.lemmas.Bool.Decides.{eqb_tells}
 use Rattle.std.proofs.lemmas.List.{get_or_append_left}
 use Rattle.std.proofs.lemmas.List.Sums.{position_or_len_is, passes_at_first}
 use Rattle.cover_problem.specs.Problem.{ProblemValue}
-use Rattle.x_steps.specs.declared.state.Label.TheVariants.{Done}
 use Rattle.x_steps.specs.StateValue.{StateValue}
-use Rattle.x_steps.specs.Steps.{Fits, next}
-use Rattle.x_steps.specs.Run.{after, states, steps_between, ReachesIn}
-use Rattle.x_steps.specs.Rank.{rank}
-use Rattle.x_steps.proofs.RunLemmas.{after_shift, leads_none, leads_push}
-use Rattle.x_steps.proofs.BetweenLemmas.{length-states, steps_between_self, steps_between_next}
-use Rattle.x_steps.proofs.StretchLemmas.{reached_fits, reached_rank}
+use Rattle.x_steps.specs.Steps.{next}
+use Rattle.x_steps.specs.Run.{after, states}
+use Rattle.x_steps.proofs.RunLemmas.{after_shift}
+use Rattle.x_steps.proofs.BetweenLemmas.{length-states}
 use Rattle.x_branches.specs.Branch.{end_of}
-use Rattle.x_branches.specs.Refusals.{most_steps}
-use Rattle.x_branches.specs.Runner.{RunnerValue, IsRunner, visit_of, unposted_steps}
-use Rattle.x_branches.specs.Stretch.{IsStretch}
+use Rattle.x_branches.specs.Runner.{RunnerValue}
 use Rattle.x_texts.specs.declared.breakpoint.Break.{Break}
-use Rattle.text_lines.specs.Writing.{text_of}
-use Rattle.x_texts.specs.Words.{visit_words}
-use Rattle.lab_world.specs.Worker.{HoldsTile, moved_to}
 use Rattle.debug_views.specs.Breakpoints.{first_met, meets_one, steps_to_break}
-use Rattle.debug_acts.proofs.WalkedLemmas.{Walked, none_walked, walked_on, part_way, part_there, ended, not_ended, left, position, same_problem}
-use Rattle.debug_acts.proofs.ForwardLemmas.{CanWalk, on_goes_on}
-use Rattle.debug_acts.specs.Walk.{IsPartWay, work_posted, with_room, step_forward, forward, steps_ahead, state_on, visit_lines, run_count}
-use Rattle.debug_acts.specs.Work.{AtWork, work}
-use Rattle.debug_acts.proofs.WalkLemmas.{on_position}
+use Rattle.debug_acts.specs.Walk.{AreSomeSteps, steps_ahead, state_on, smaller_of, step_count, stride, run_count}
+use Rattle.debug_acts.specs.Acts.{walk_acts, Walks, WalksPart}
+use Rattle.debug_acts.proofs.CountLemmas.{least_first, least_within}
+use Rattle.debug_acts.proofs.WorkLemmas.{AtWork, IsWork}
+use Rattle.debug_acts.proofs.LeadLemmas.{begun, all_part, walk_part}
+use Rattle.debug_acts.proofs.WalkedLemmas.{Walked, none_walked, same_runner, ended, not_ended, left, part_on}
+
+-- how many steps it takes at once
+pub stride_none : (breaks : List Break) → length breaks ≡ 0 → 4294967295 ≡ stride breaks
+stride_none [] e = refl
+stride_none (b ∷ bs) e = absurd (omega arith)
+
+pub some_stride : (breaks : List Break) → 0 < stride breaks
+some_stride [] = omega arith
+some_stride (b ∷ bs) = omega arith
 
 -- ---- what is met
 
@@ -80,12 +82,19 @@ Unmet r breaks n = (i : ℕ) → 0 < i → i ≤ n → first_met r.problem break
 pub unmet_none : (r : RunnerValue) (breaks : List Break) → Unmet r breaks 0
 unmet_none r breaks i a b = absurd (omega arith)
 
-pub unmet_more : (r : RunnerValue) (breaks : List Break) (n : ℕ) → Unmet r breaks n → first_met r.problem breaks (state_on r (suc n)) ≡ None → Unmet r breaks (suc n)
-unmet_more r breaks n u e i a b = by (cases_lt i (suc n))
+-- it takes one step at once, or no breakpoint is set
+one_or_none : (breaks : List Break) (m k : ℕ) → AreSomeSteps m (smaller_of (stride breaks) k) → (m ≡ 1) ⊎ (breaks ≡ [])
+one_or_none [] m k l = inr refl
+one_or_none (b ∷ bs) m k l = let a = least_first 1 k in let f = l.0 in let g = l.1 in inl (omega arith)
+
+pub unmet_more : (r : RunnerValue) (breaks : List Break) (n m k : ℕ) → Unmet r breaks n → AreSomeSteps m (smaller_of (stride breaks) k)
+    → first_met r.problem breaks (state_on r (n + m)) ≡ None → Unmet r breaks (n + m)
+unmet_more r breaks n m k u l e i a b = by (one_or_none breaks m k l) (cases_lt i (n + m))
   where
-    by : (i < suc n) ⊎ (suc n ≤ i) → first_met r.problem breaks (state_on r i) ≡ None
-    by (inl l) = u i a (omega arith)
-    by (inr l) = let h : i ≡ suc n = omega arith in ap (λ m. first_met r.problem breaks (state_on r m)) h ∙ e
+    by : (m ≡ 1) ⊎ (breaks ≡ []) → (i < n + m) ⊎ (n + m ≤ i) → first_met r.problem breaks (state_on r i) ≡ None
+    by (inl one) (inl f) = u i a (omega arith)
+    by (inr none) f = ap (λ (bs : List Break). first_met r.problem bs (state_on r i)) none
+    by (inl one) (inr f) = let h : i ≡ n + m = omega arith in ap (λ (x : ℕ). first_met r.problem breaks (state_on r x)) h ∙ e
 
 module _ (r : RunnerValue) (breaks : List Break) where
   -- the states after the first step and before the end
@@ -120,125 +129,6 @@ module _ (r : RunnerValue) (breaks : List Break) where
           cc
       by (inr h) = let e = count_form (omega arith) in omega arith
 
--- ---- how the steps are counted
-
--- how many steps were posted, where each entry of the history posts a full stretch, and how many weren't
-abbrev pub spent : AtWork → ℕ
-spent a = most_steps * length a.book.history + unposted_steps a.worker.runner
-
-module _ (a : AtWork) (k : IsStretch a.worker.runner.problem a.worker.runner.mark a.worker.runner.position) (goes_on : a.worker.runner.position.label ≡ Done → ⊥) (small : unposted_steps a.worker.runner ≤ most_steps) where
-  here_fits : Fits a.worker.runner.problem a.worker.runner.position
-  here_fits = reached_fits a.worker.runner.problem a.worker.runner.mark a.worker.runner.position _ k.fits k.reaches
-
-  -- the next step from a book and a worker
-  abbrev forth : AtWork → AtWork
-  forth v = work v.book (moved_to v.worker (next a.worker.runner.problem a.worker.runner.position))
-
-  -- the first step after a post
-  first_step : steps_between a.worker.runner.problem a.worker.runner.position (next a.worker.runner.problem a.worker.runner.position) ≡ 1
-  first_step =
-      steps_between_next a.worker.runner.problem a.worker.runner.position a.worker.runner.position here_fits here_fits (le_refl (rank a.worker.runner.problem a.worker.runner.position)) goes_on
-      ∙ ap suc (steps_between_self a.worker.runner.problem a.worker.runner.position here_fits)
-
-  -- one more of a stretch
-  next_step : steps_between a.worker.runner.problem a.worker.runner.mark (next a.worker.runner.problem a.worker.runner.position) ≡ suc (unposted_steps a.worker.runner)
-  next_step =
-      steps_between_next a.worker.runner.problem a.worker.runner.mark a.worker.runner.position k.fits here_fits
-      (reached_rank a.worker.runner.problem a.worker.runner.mark a.worker.runner.position _ k.fits k.reaches) goes_on
-
-  posted_entries : length (work_posted a).book.history ≡ length a.book.history + 1
-  unfolding work_posted
-  posted_entries = length-append a.book.history _
-
-  -- one step more is spent
-  abbrev OneMore : AtWork → Type 0
-  OneMore v = (spent v ≡ suc (spent a)) × (unposted_steps v.worker.runner ≤ most_steps)
-
-  full : unposted_steps a.worker.runner ≡ most_steps → OneMore (forth (work_posted a))
-  unfolding work_posted
-  full e =
-      let h = posted_entries in
-      let f = first_step in
-      (omega arith, omega arith)
-
-  not_full : (unposted_steps a.worker.runner ≡ most_steps → ⊥) → OneMore (forth a)
-  not_full e =
-      let f = next_step in
-      (omega arith, less (cases_lt (unposted_steps a.worker.runner) most_steps))
-    where
-      less : (unposted_steps a.worker.runner < most_steps) ⊎ (most_steps ≤ unposted_steps a.worker.runner) → unposted_steps (forth a).worker.runner ≤ most_steps
-      less (inl l) = let f = next_step in omega arith
-      less (inr l) = absurd (e (omega arith))
-
-  pub one_spent : OneMore (step_forward a)
-  unfolding step_forward
-  one_spent = by (eqb_tells (unposted_steps a.worker.runner) most_steps)
-    where
-      by : (((unposted_steps a.worker.runner == most_steps) ≡ true) × (unposted_steps a.worker.runner ≡ most_steps)) ⊎ (((unposted_steps a.worker.runner == most_steps) ≡ false) × (unposted_steps a.worker.runner ≡ most_steps → ⊥))
-          → OneMore (forth (with_room a))
-      by (inl t) = let e : with_room a ≡ work_posted a = rw t.0 refl in subst (λ v. OneMore (forth v)) (sym e) (full t.1)
-      by (inr t) = let e : with_room a ≡ a = rw t.0 refl in subst (λ v. OneMore (forth v)) (sym e) (not_full t.1)
-
-  -- the part from the mark to the position is a stretch again
-  abbrev IsOn : AtWork → Type 0
-  IsOn v = IsStretch v.worker.runner.problem v.worker.runner.mark v.worker.runner.position
-
-  full_on : IsOn (forth (work_posted a))
-  unfolding work_posted
-  full_on = record {
-    fits = here_fits;
-    reaches = subst (ReachesIn a.worker.runner.problem a.worker.runner.position (next a.worker.runner.problem a.worker.runner.position)) (sym first_step)
-        (leads_push a.worker.runner.problem a.worker.runner.position a.worker.runner.position 0 (leads_none a.worker.runner.problem a.worker.runner.position) goes_on);
-  }
-
-  not_full_on : IsOn (forth a)
-  not_full_on = record {
-    fits = k.fits;
-    reaches = subst (ReachesIn a.worker.runner.problem a.worker.runner.mark (next a.worker.runner.problem a.worker.runner.position)) (sym next_step)
-        (leads_push a.worker.runner.problem a.worker.runner.mark a.worker.runner.position (unposted_steps a.worker.runner) k.reaches goes_on);
-  }
-
-  pub stretch_on : IsOn (step_forward a)
-  unfolding step_forward
-  stretch_on = by (unposted_steps a.worker.runner == most_steps)
-    where
-      by : (v : Bool) → IsOn (forth (cond v (work_posted a) a))
-      by true = full_on
-      by false = not_full_on
-
--- n steps are spent
-pub record AreSpent (a : AtWork) (n : ℕ) (b : AtWork) : Type 0 where
-  pub counted : spent b ≡ n + spent a
-  pub small : unposted_steps b.worker.runner ≤ most_steps
-  pub stretch : IsStretch b.worker.runner.problem b.worker.runner.mark b.worker.runner.position
-
-module _ (a : AtWork) (can : CanWalk a.worker.runner) (k : IsStretch a.worker.runner.problem a.worker.runner.mark a.worker.runner.position)
-    (small : unposted_steps a.worker.runner ≤ most_steps) where
-  many_spent : (n : ℕ) → n ≤ steps_ahead a.worker.runner → AreSpent a n (forward n a)
-  many_spent zero l = record { counted = omega arith; small = small; stretch = k }
-  many_spent (suc n) l =
-      let s = many_spent n (omega arith) in
-      let go : (forward n a).worker.runner.position.label ≡ Done → ⊥ = λ d. on_goes_on a.worker.runner can n (omega arith) (ap (λ (s : StateValue). s.label) (sym (on_position n a)) ∙ d) in
-      let one = one_spent (forward n a) s.stretch go s.small in
-      let p = one.0 in
-      let q = s.counted in
-      record { counted = omega arith; small = one.1; stretch = stretch_on (forward n a) s.stretch go s.small }
-
-  -- there are fewer of them than a u128 can count
-  pub few_walked : (n : ℕ) (c : AtWork) (old more : List ℕ) → Walked a n c old more → length c.book.history < 2 ^ 64 → n < 2 ^ 128
-  few_walked n c old more w l =
-      let s = many_spent n w.within in
-      let p : spent c ≡ n + spent a = ap spent w.made ∙ s.counted in
-      let q = ap (λ (v : AtWork). unposted_steps v.worker.runner) w.made in
-      let r = s.small in
-      omega arith
-
--- what a u32 counts is no more than a stretch can have
-pub small_count : (n steps : ℕ) → n < most_steps + 1 → n ≡ steps → steps ≤ most_steps
-small_count n steps l e = omega arith
-
--- ---- no breakpoint
-
 -- where none is set, a run goes to the end, and none is met there
 pub run_count_none : (breaks : List Break) (r : RunnerValue) → length breaks ≡ 0 → 0 < steps_ahead r → steps_ahead r ≡ run_count breaks r
 run_count_none [] r e some =
@@ -246,35 +136,7 @@ run_count_none [] r e some =
     last ∙ stops_at r [] (steps_ahead r - 1) (omega arith) (λ i a b. refl) (λ l. absurd (omega arith))
 run_count_none (b ∷ bs) r e some = absurd (omega arith)
 
-pub end_made : (breaks : List Break) (a b : AtWork) → length breaks ≡ 0 → 0 < steps_ahead a.worker.runner → b ≡ forward (steps_ahead a.worker.runner) a
-    → b ≡ forward (run_count breaks a.worker.runner) a
-end_made breaks a b e some h = h ∙ ap (λ n. forward n a) (run_count_none breaks a.worker.runner e some)
-
-pub end_text : (breaks : List Break) (r : RunnerValue) (old new : List ℕ) → length breaks ≡ 0 → 0 < steps_ahead r
-    → new ≡ old ++ text_of (visit_lines r.problem r.position (state_on r (steps_ahead r)))
-    → new ≡ old ++ text_of (visit_lines r.problem r.position (state_on r (run_count breaks r)))
-end_text breaks r old new e some h = h ∙ ap (λ n. old ++ text_of (visit_lines r.problem r.position (state_on r n))) (run_count_none breaks r e some)
-
-pub end_left : (breaks : List Break) (a b : AtWork) → length breaks ≡ 0 → 0 < steps_ahead a.worker.runner → IsPartWay a b (steps_ahead a.worker.runner)
-    → IsPartWay a b (run_count breaks a.worker.runner)
-end_left breaks a b e some h = subst (IsPartWay a b) (run_count_none breaks a.worker.runner e some) h
-
 -- ---- the loop
-
--- so many steps were taken, and none of them met a breakpoint
-pub record RunsOn (a : AtWork) (breaks : List Break) (n : ℕ) (b : AtWork) (old new : List ℕ) : Type 0 where
-  pub walked : Walked a n b old new
-  pub unmet : Unmet a.worker.runner breaks n
-  pub counted : spent b ≡ n + spent a
-  pub small : unposted_steps b.worker.runner ≤ most_steps
-
-pub none_run : (a : AtWork) (breaks : List Break) (text : List ℕ) (n : ℕ) → CanWalk a.worker.runner → HoldsTile a.book a.worker → n < most_steps + 1 → n ≡ unposted_steps a.worker.runner → RunsOn a breaks 0 a text text
-none_run a breaks text n k h l e = record {
-  walked = none_walked a text k h;
-  unmet = unmet_none a.worker.runner breaks;
-  counted = omega arith;
-  small = omega arith;
-}
 
 some_is : (m : Option Break) → true ≡ is_some m → (b : Break) × (m ≡ Some b)
 some_is None e = cc
@@ -284,78 +146,81 @@ none_is : (m : Option Break) → false ≡ is_some m → m ≡ None
 none_is None e = refl
 none_is (Some b) e = cc
 
--- a step that is taken from elsewhere than the end
-pub record Steps (b c : AtWork) (new more : List ℕ) : Type 0 where
-  pub goes : b.worker.runner.position ≡ end_of b.worker.runner.branch.hi → ⊥
-  pub runner : IsRunner b.worker.runner
-  pub made : c ≡ step_forward b
-  pub text : more ≡ new ++ text_of (map visit_words (visit_of b.worker.runner.problem b.worker.runner.position))
-  pub holds : HoldsTile c.book c.worker
+-- so many steps were taken, and none of the states that they led to met a breakpoint
+pub record RunsOn (u : AtWork) (breaks : List Break) (n : ℕ) (v : AtWork) (old new : List ℕ) : Type 0 where
+  pub walked : Walked u n v old new
+  pub unmet : Unmet u.worker.runner breaks n
 
-module _ (a : AtWork) (breaks : List Break) (n : ℕ) (b : AtWork) (old new : List ℕ) (w : RunsOn a breaks n b old new) where
+pub none_run : (u : AtWork) (breaks : List Break) (text : List ℕ) → IsWork u → RunsOn u breaks 0 u text text
+none_run u breaks text s = record { walked = none_walked u text s; unmet = unmet_none u.worker.runner breaks }
+
+module _ (u : AtWork) (breaks : List Break) (n : ℕ) (v : AtWork) (old new : List ℕ) (w : RunsOn u breaks n v old new) where
+  abbrev run : RunnerValue
+  run = u.worker.runner
+
   -- at the end no state met a breakpoint
-  pub run_to_end : 0 < steps_ahead a.worker.runner → b.worker.runner.position ≡ end_of b.worker.runner.branch.hi → n ≡ run_count breaks a.worker.runner
-  run_to_end some e = by n (ended a n b old new w.walked e) w.unmet
+  pub run_to_end : 0 < steps_ahead run → v.worker.runner.position ≡ end_of v.worker.runner.branch.hi → n ≡ run_count breaks run
+  run_to_end some e = by n (ended u n v old new w.walked e) w.unmet
     where
-      by : (m : ℕ) → m ≡ steps_ahead a.worker.runner → Unmet a.worker.runner breaks m → m ≡ run_count breaks a.worker.runner
-      by zero h u = absurd (omega arith)
-      by (suc m) h u = stops_at a.worker.runner breaks m (omega arith) (λ i x y. u i x (omega arith)) (λ l. absurd (omega arith))
+      by : (m : ℕ) → m ≡ steps_ahead run → Unmet run breaks m → m ≡ run_count breaks run
+      by zero h x = absurd (omega arith)
+      by (suc m) h x = stops_at run breaks m (omega arith) (λ i a b. x i a (omega arith)) (λ l. absurd (omega arith))
 
-  pub none_met : (m : ℕ) → 0 < steps_ahead a.worker.runner → b.worker.runner.position ≡ end_of b.worker.runner.branch.hi → n ≡ m
-      → None ≡ first_met a.worker.runner.problem breaks (state_on a.worker.runner m)
-  none_met m some e h =
-      let all = ended a n b old new w.walked e in
-      sym (w.unmet m (omega arith) (omega arith))
+  pub none_met : (m : ℕ) → 0 < steps_ahead run → v.worker.runner.position ≡ end_of v.worker.runner.branch.hi → n ≡ m
+      → None ≡ first_met run.problem breaks (state_on run m)
+  none_met m some e h = let all = ended u n v old new w.walked e in sym (w.unmet m (omega arith) (omega arith))
 
-  module _ (go : b.worker.runner.position ≡ end_of b.worker.runner.branch.hi → ⊥) where
-    pub further : suc n ≤ run_count breaks a.worker.runner
-    further = goes_further a.worker.runner breaks n (not_ended a n b old new w.walked go) w.unmet
+  -- elsewhere it goes as far as it does at once
+  pub run_part : (go : v.worker.runner.position ≡ end_of v.worker.runner.branch.hi → ⊥) (c : AtWork)
+      → WalksPart v.book v.worker (step_count v.worker.runner (stride breaks)) c.book c.worker → WalksPart u.book u.worker (run_count breaks run) c.book c.worker
+  run_part go c p = part_on u n v old new w.walked (step_count v.worker.runner (stride breaks)) (run_count breaks run) c p (by breaks refl)
+    where
+      by : (bs : List Break) → breaks ≡ bs → n + smaller_of (stride bs) (steps_ahead v.worker.runner) ≤ run_count breaks run
+      by [] e =
+          let l = not_ended u n v old new w.walked go in
+          let all = run_count_none breaks run (ap (length {A = Break}) e) (omega arith) in
+          let m = left u n v old new w.walked in
+          let k = least_within (stride []) (steps_ahead v.worker.runner) in omega arith
+      by (b ∷ bs) e =
+          let k = least_first 1 (steps_ahead v.worker.runner) in
+          let f = goes_further run breaks n (not_ended u n v old new w.walked go) w.unmet in omega arith
 
-    pub run_part : (c : AtWork) → (c ≡ b) ⊎ (c ≡ with_room b) → IsPartWay a c (run_count breaks a.worker.runner)
-    run_part c h = let l = further in part_way a n b old new w.walked c (run_count breaks a.worker.runner) (omega arith) h
+  -- where it is left when what is met can't be looked for
+  pub met_part : (m : ℕ) (c : AtWork) → AreSomeSteps m (step_count v.worker.runner (stride breaks))
+      → (go : v.worker.runner.position ≡ end_of v.worker.runner.branch.hi → ⊥) → Walks v.book v.worker m c.book c.worker
+      → WalksPart u.book u.worker (run_count breaks run) c.book c.worker
+  met_part m c some go led =
+      run_part go c (walk_part v 0 v refl m (step_count v.worker.runner (stride breaks)) c (let l = some.1 in omega arith)
+      (all_part v.book c.book (Some v.worker) (Some c.worker) (walk_acts m (begun v)) led))
 
-  module _ (c : AtWork) (more : List ℕ) (x : Steps b c new more) where
-    pub step_walked : Walked a (suc n) c old more
-    step_walked = walked_on a n b old new w.walked c more x.goes x.made x.text x.holds
+  module _ (m : ℕ) (c : AtWork) (more : List ℕ) (some : AreSomeSteps m (step_count v.worker.runner (stride breaks)))
+      (on : Walked u (n + m) c old more) (met : Option Break) (read : met ≡ first_met c.worker.runner.problem breaks c.worker.runner.position) where
+    met_here : met ≡ first_met run.problem breaks (state_on run (n + m))
+    met_here = let q = same_runner u (n + m) c old more on in read ∙ ap₂ (λ p s. first_met p breaks s) q.0 q.1
 
-    step_spent : (spent c ≡ suc (spent b)) × (unposted_steps c.worker.runner ≤ most_steps)
-    step_spent = subst (λ v. (spent v ≡ suc (spent b)) × (unposted_steps v.worker.runner ≤ most_steps)) (sym x.made)
-        (one_spent b x.runner.stretch (λ d. on_goes_on a.worker.runner w.walked.can n (not_ended a n b old new w.walked x.goes) (ap (λ (s : StateValue). s.label) (sym (position a n b old new w.walked)) ∙ d)) w.small)
+    pub run_to_break : true ≡ is_some met → n + m ≡ run_count breaks run
+    run_to_break is = by (one_or_none breaks m (steps_ahead v.worker.runner) some)
+      where
+        by : (m ≡ 1) ⊎ (breaks ≡ []) → n + m ≡ run_count breaks run
+        by (inl one) =
+            let f = some_is met is in
+            let e : n + m ≡ suc n = omega arith in
+            let l = on.within in
+            e ∙ stops_at run breaks n (omega arith) w.unmet
+            (λ _. (f.0, ap (λ (i : ℕ). first_met run.problem breaks (state_on run i)) (sym e) ∙ sym met_here ∙ f.1))
+        by (inr none) =
+            let f = some_is met is in
+            let z : met ≡ None = met_here ∙ ap (λ (bs : List Break). first_met run.problem bs (state_on run (n + m))) none in
+            absurd (cc)
 
-    -- there are fewer steps than a u128 can count
-    pub few : length c.book.history < 2 ^ 64 → n + 1 < 2 ^ 128
-    few l = let p = step_spent.0 in let q = step_spent.1 in let r = w.counted in omega arith
+    pub met_there : true ≡ is_some met → met ≡ first_met run.problem breaks (state_on run (run_count breaks run))
+    met_there is = met_here ∙ ap (λ i. first_met run.problem breaks (state_on run i)) (run_to_break is)
 
-    pub step_part : IsPartWay a c (run_count breaks a.worker.runner)
-    step_part = part_there a (suc n) c old more step_walked c (run_count breaks a.worker.runner) (further x.goes) refl
-
-    module _ (m : Option Break) (met : m ≡ first_met c.worker.runner.problem breaks c.worker.runner.position) where
-      met_here : m ≡ first_met a.worker.runner.problem breaks (state_on a.worker.runner (suc n))
-      met_here = met ∙ ap₂ (λ p s. first_met p breaks s) (same_problem a (suc n) c old more step_walked) (position a (suc n) c old more step_walked)
-
-      pub run_to_break : true ≡ is_some m → suc n ≡ run_count breaks a.worker.runner
-      run_to_break some =
-          let f = some_is m some in
-          stops_at a.worker.runner breaks n (not_ended a n b old new w.walked x.goes) w.unmet (λ _. (f.0, sym met_here ∙ f.1))
-
-      pub met_there : true ≡ is_some m → m ≡ first_met a.worker.runner.problem breaks (state_on a.worker.runner (run_count breaks a.worker.runner))
-      met_there some = met_here ∙ ap (λ i. first_met a.worker.runner.problem breaks (state_on a.worker.runner i)) (run_to_break some)
-
-      pub runs_on : false ≡ is_some m → RunsOn a breaks (suc n) c old more
-      runs_on none = record {
-        walked = step_walked;
-        unmet = unmet_more a.worker.runner breaks n w.unmet (sym met_here ∙ none_is m none);
-        counted = let p = step_spent.0 in let r = w.counted in omega arith;
-        small = step_spent.1;
-      }
-
-    -- fewer are ahead
-    pub fewer_ahead : steps_ahead c.worker.runner < steps_ahead b.worker.runner
-    fewer_ahead =
-        let p = left a n b old new w.walked in
-        let q = left a (suc n) c old more step_walked in
-        let l = not_ended a n b old new w.walked x.goes in
-        omega arith
+    pub runs_on : false ≡ is_some met → RunsOn u breaks (n + m) c old more
+    runs_on none = record {
+      walked = on;
+      unmet = unmet_more run breaks n m (steps_ahead v.worker.runner) w.unmet some (sym met_here ∙ none_is met none);
+    }
 
 -- ---- how far `run` goes
 

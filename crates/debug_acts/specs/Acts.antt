@@ -1,6 +1,6 @@
 -- Acts of worker 0, one after another: steps (`walk_acts`), what isn't posted is posted and the tile is given up or closed (`end_acts`,
 -- `close_acts`), and a tile is entered (`enter_act`); where some first ones of them lead, which is what is left where memory runs out
--- (`LeadsSome`); and what the call of each command does, in full (`DoesStep`, ..) or in part (`DoesPartOfStep`, ..).
+-- (`LeadsSome`); and what a call plays, in full or where memory runs out in part (`Plays`).
 --
 -- Example: at the start of the small problem nothing is to be posted, and `park` is the one act `Park`. proofs/ActExamples.antt computes it.
 use Rattle.std.specs.Prelude.{ℕ, zero, suc, ◌≤◌, ◌-◌, ◌==◌, nat_lt, Bool, false, if◌then◌else◌, Option, Some, None, List, [], ◌∷◌, ◌++◌, length, take, replicate, Result, OnOk, OnErr}
@@ -11,8 +11,8 @@ use Rattle.lab_book.specs.Tile.{TileValue, is_held}
 use Rattle.lab_book.specs.Book.{BookValue}
 use Rattle.lab_world.specs.declared.event.Act.{Act}
 use Rattle.lab_world.specs.declared.event.Act.TheVariants.{Step, Back, Lease, TakeHeld, Post, Close}
-use Rattle.lab_world.specs.Worker.{WorkerValue}
-use Rattle.lab_world.specs.World.{WorldValue, worker_at, played}
+use Rattle.lab_world.specs.Worker.{WorkerValue, HoldsTile}
+use Rattle.lab_world.specs.World.{WorldValue, IsSeat, worker_at, played}
 use Rattle.lab_world.specs.Alone.{alone, own_events, Leads}
 use Rattle.debug_acts.specs.Walk.{steps_ahead, step_count, run_count, back_count}
 
@@ -22,6 +22,10 @@ use Rattle.debug_acts.specs.Walk.{steps_ahead, step_count, run_count, back_count
 abbrev pub step_acts : Option WorkerValue → List Act
 step_acts None = []
 step_acts (Some w) = if unposted_steps w.runner == most_steps then Post ∷ Step ∷ [] else Step ∷ []
+
+-- that post alone, where it is to be made
+abbrev pub room_acts : WorkerValue → List Act
+room_acts w = if unposted_steps w.runner == most_steps then Post ∷ [] else []
 
 -- so many steps, each from where those before it led
 abbrev pub walk_acts : ℕ → WorldValue → List Act
@@ -70,66 +74,48 @@ pub record LeadsSome (b : BookValue) (x : Option WorkerValue) (acts : List Act) 
 abbrev pub LeadsPart : BookValue → Option WorkerValue → List Act → BookValue → Option WorkerValue → Type 0
 LeadsPart b x acts c y = LeadsSome b x acts (length acts) c y
 
--- some first ones, without the last
-abbrev pub LeadsShort : BookValue → Option WorkerValue → List Act → BookValue → Option WorkerValue → Type 0
-LeadsShort b x acts c y = LeadsSome b x acts (length acts - 1) c y
-
 -- ---- what calls do
 
--- unless a call has an error, a book and its worker have gone so many steps on
-abbrev pub WalksOn : {X E : Type 0} → Result X E → BookValue → WorkerValue → BookValue → WorkerValue → ℕ → Type 0
-WalksOn result b w c v n = OnOk result (Leads b (Some w) (walk_acts n (alone b (Some w))) c (Some v))
+-- a call plays these acts; where it has an error, some first ones of them, and no more than `most`
+abbrev pub PlaysSome : {X E : Type 0} → Result X E → BookValue → Option WorkerValue → List Act → ℕ → BookValue → Option WorkerValue → Type 0
+PlaysSome result b x acts most c y = OnOk result (Leads b x acts c y) × OnErr result (LeadsSome b x acts most c y)
 
--- where it has one, some first acts of that are done
-abbrev pub WalksPart : {X E : Type 0} → Result X E → BookValue → WorkerValue → BookValue → WorkerValue → ℕ → Type 0
-WalksPart result b w c v n = OnErr result (LeadsPart b (Some w) (walk_acts n (alone b (Some w))) c (Some v))
+-- where it has one, some first ones, or all
+abbrev pub Plays : {X E : Type 0} → Result X E → BookValue → Option WorkerValue → List Act → BookValue → Option WorkerValue → Type 0
+Plays result b x acts c y = PlaysSome result b x acts (length acts) c y
 
--- unless a call has an error, a worker has gone so many steps back, and the book is the same
-abbrev pub WalksBack : {X E : Type 0} → Result X E → BookValue → WorkerValue → WorkerValue → ℕ → Type 0
-WalksBack result b w v n = OnOk result (Leads b (Some w) (replicate n Back) b (Some v))
+-- where it has one, some first ones, without the last
+abbrev pub PlaysShort : {X E : Type 0} → Result X E → BookValue → Option WorkerValue → List Act → BookValue → Option WorkerValue → Type 0
+PlaysShort result b x acts c y = PlaysSome result b x acts (length acts - 1) c y
 
--- where it has one, some of them
-abbrev pub GoesPartBack : {X E : Type 0} → Result X E → BookValue → WorkerValue → WorkerValue → ℕ → Type 0
-GoesPartBack result b w v n = OnErr result (LeadsPart b (Some w) (replicate n Back) b (Some v))
+-- so many steps lead a book and its worker there
+abbrev pub Walks : BookValue → WorkerValue → ℕ → BookValue → WorkerValue → Type 0
+Walks b w n c v = Leads b (Some w) (walk_acts n (alone b (Some w))) c (Some v)
 
--- ---- what each command's call does
+-- some first acts of these steps, or all, do
+abbrev pub WalksPart : BookValue → WorkerValue → ℕ → BookValue → WorkerValue → Type 0
+WalksPart b w n c v = LeadsPart b (Some w) (walk_acts n (alone b (Some w))) c (Some v)
 
--- unless `step` has an error, a book and its worker have gone on as it goes where n steps are asked for
-abbrev pub DoesStep : {X E : Type 0} → Result X E → BookValue → WorkerValue → BookValue → WorkerValue → ℕ → Type 0
-DoesStep result b w c v n = WalksOn result b w c v (step_count w.runner n)
+-- a call takes so many steps; where it has an error, it has played some first acts of them
+abbrev pub PlaysWalk : {X E : Type 0} → Result X E → BookValue → WorkerValue → ℕ → BookValue → WorkerValue → Type 0
+PlaysWalk result b w n c v = Plays result b (Some w) (walk_acts n (alone b (Some w))) c (Some v)
 
--- where it has one, some first acts of that are done
-abbrev pub DoesPartOfStep : {X E : Type 0} → Result X E → BookValue → WorkerValue → BookValue → WorkerValue → ℕ → Type 0
-DoesPartOfStep result b w c v n = WalksPart result b w c v (step_count w.runner n)
+-- `step` takes its steps where n are asked for
+abbrev pub PlaysStep : {X E : Type 0} → Result X E → BookValue → WorkerValue → ℕ → BookValue → WorkerValue → Type 0
+PlaysStep result b w n c v = PlaysWalk result b w (step_count w.runner n) c v
 
--- unless `run` has an error, they have gone on as it goes with these breakpoints
-abbrev pub DoesRun : {X E : Type 0} → Result X E → BookValue → WorkerValue → BookValue → WorkerValue → List Break → Type 0
-DoesRun result b w c v breaks = WalksOn result b w c v (run_count breaks w.runner)
+-- `run` takes its steps with these breakpoints
+abbrev pub PlaysRun : {X E : Type 0} → Result X E → BookValue → WorkerValue → List Break → BookValue → WorkerValue → Type 0
+PlaysRun result b w breaks c v = PlaysWalk result b w (run_count breaks w.runner) c v
 
--- where it has one, some first acts of that are done
-abbrev pub DoesPartOfRun : {X E : Type 0} → Result X E → BookValue → WorkerValue → BookValue → WorkerValue → List Break → Type 0
-DoesPartOfRun result b w c v breaks = WalksPart result b w c v (run_count breaks w.runner)
+-- so many steps back lead a worker there, whatever its book is
+abbrev pub WalksBack : WorkerValue → ℕ → WorkerValue → Type 0
+WalksBack w n v = (b : BookValue) → Leads b (Some w) (replicate n Back) b (Some v)
 
--- unless `back` has an error, a worker has gone back as it goes where n steps are asked for, and the book is the same
-abbrev pub DoesBack : {X E : Type 0} → Result X E → BookValue → WorkerValue → WorkerValue → ℕ → Type 0
-DoesBack result b w v n = WalksBack result b w v (back_count w.runner n)
+-- `back` takes its steps where n are asked for
+abbrev pub PlaysBack : {X E : Type 0} → Result X E → WorkerValue → ℕ → WorkerValue → Type 0
+PlaysBack result w n v = (b : BookValue) → Plays result b (Some w) (replicate (back_count w.runner n) Back) b (Some v)
 
--- where it has one, it has gone some of these steps
-abbrev pub DoesPartOfBack : {X E : Type 0} → Result X E → BookValue → WorkerValue → WorkerValue → ℕ → Type 0
-DoesPartOfBack result b w v n = GoesPartBack result b w v (back_count w.runner n)
-
--- unless a call has an error, what isn't posted is posted, and then this act is done
-abbrev pub DoesEnd : {X E : Type 0} → Result X E → BookValue → Option WorkerValue → Act → BookValue → Option WorkerValue → Type 0
-DoesEnd result b x a c y = OnOk result (Leads b x (end_acts x a) c y)
-
--- where it has one, this act isn't done
-abbrev pub DoesPartOfEnd : {X E : Type 0} → Result X E → BookValue → Option WorkerValue → Act → BookValue → Option WorkerValue → Type 0
-DoesPartOfEnd result b x a c y = OnErr result (LeadsShort b x (end_acts x a) c y)
-
--- unless `close` has an error, the tile is closed, or the book has refused it
-abbrev pub DoesClose : {X E : Type 0} → Result X E → BookValue → Option WorkerValue → BookValue → Option WorkerValue → Type 0
-DoesClose result b x c y = OnOk result (Leads b x (close_acts x) c y)
-
--- where it has one, neither has come to be
-abbrev pub DoesPartOfClose : {X E : Type 0} → Result X E → BookValue → Option WorkerValue → BookValue → Option WorkerValue → Type 0
-DoesPartOfClose result b x c y = OnErr result (LeadsShort b x (close_acts x) c y)
+-- a worker keeps its number and its tile, whatever its book is
+abbrev pub StaysSeated : WorkerValue → WorkerValue → Type 0
+StaysSeated w v = (b : BookValue) → HoldsTile b w → IsSeat b w.grant.worker (Some v)

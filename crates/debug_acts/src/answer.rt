@@ -1,13 +1,12 @@
 //! One act of worker 0, and what it is answered.
-ghost use Rattle.std.specs.Prelude.{◌≡◌, ◌<◌, nat_lt, ◌∷◌, [], length, OnOk, OnErr};
+ghost use Rattle.std.specs.Prelude.{◌≡◌, ◌<◌, nat_lt, ◌∷◌, [], length};
 ghost use Rattle.std.specs.List.{slice_get};
 ghost use Rattle.shared_words.specs.Answers.{Returns};
 ghost use Rattle.text_lines.specs.Writes.{AddsLine, AddsLines};
 ghost use Rattle.lab_book.specs.Tiling.{tile_at};
 ghost use Rattle.debug_views.specs.Tiles.{tile_line};
 ghost use Rattle.lab_world.specs.World.{IsSeat, IsInHistory};
-ghost use Rattle.lab_world.specs.Alone.{Leads};
-ghost use Rattle.debug_acts.specs.Acts.{LeadsPart};
+ghost use Rattle.debug_acts.specs.Acts.{Plays};
 ghost use Rattle.debug_acts.specs.Answer.{reply_refusals, refusals, is_done, worker_place, worker_retracted, worker_parted, tile_lines, done_lines, TellsAct};
 
 use cover_problem::Table;
@@ -163,11 +162,9 @@ pub fn ask<'p, T: Table>(
     text: &mut Vec<u8>,
 ) -> Result<(), AllocError>
     requires seat { IsSeat book.old 0 seat.old }
-    ensures made { OnOk result (Leads book.old seat.old (act.now ∷ []) book.new seat.new) }
+    ensures acts { Plays result book.old seat.old (act.now ∷ []) book.new seat.new }
     ensures text { TellsAct result text.old text.new book.old seat.old act.now told.now }
-    ensures left { OnErr result (LeadsPart book.old seat.old (act.now ∷ []) book.new seat.new) }
     ensures seat { IsSeat book.new 0 seat.new }
-    ensures same_problem { book.new.problem ≡ book.old.problem }
 {
     let reply = take_turn(alloc, book, seat, 0, act)?;
     // A refusal is an answer too, and no error.

@@ -1,8 +1,10 @@
 //! Steps onward and back.
-ghost use Rattle.std.specs.Prelude.{◌≡◌, ◌<◌, ◌≤◌, IfOk, OnOk, OnErr};
+ghost use Rattle.std.specs.Prelude.{◌≡◌, ◌<◌, Some, IfOk, OnErr};
+ghost use Rattle.lab_book.specs.Book.{BookValue};
 ghost use Rattle.lab_world.specs.Worker.{HoldsTile};
-ghost use Rattle.debug_acts.specs.Walk.{step_forward, IsNotStepped, next_visit, told_visit, Walks, StepsSome, WritesVisits, moved_lines, steps_ahead, step_count};
-ghost use Rattle.debug_acts.specs.Work.{work};
+ghost use Rattle.lab_world.specs.World.{IsSeat};
+ghost use Rattle.debug_acts.specs.Walk.{WalksFar, AreSomeSteps, told_visit, WritesVisits, moved_lines, steps_ahead, step_count};
+ghost use Rattle.debug_acts.specs.Acts.{Walks, WalksPart};
 ghost use Rattle.text_lines.specs.Writes.{AddsLines};
 
 mod backward;
@@ -18,40 +20,27 @@ use lab_book::Book;
 use lab_world::Worker;
 pub use onward::step;
 use std::alloc::AllocError;
-use x_steps::Event;
+use x_steps::{Event, Walk};
 use x_texts::write_visit;
 
-/// Writes the visit of the next step, if it is one.
-fn note_visit<T: Table>(text: &mut Vec<u8>, worker: &Worker<'_, T>) -> Result<(), AllocError>
-    ensures { AddsLines result text.old text.new (next_visit worker.now.runner) }
+/// Takes a step, or up to so many, no further than to the next visit, of a worker that has room for one and isn't at its branch's end.
+fn walk_far<T: Table>(worker: &mut Worker<'_, T>, most: u32) -> Result<Walk, AllocError>
+    requires { 0 < most }
+    ensures walked { IfOk result (WalksFar worker.old worker.new most) }
+    ensures unchanged { OnErr result (worker.new ≡ worker.old) }
+    ensures holds { (b : BookValue) → HoldsTile b worker.old → HoldsTile b worker.new }
 {
-    if worker.runner().is_visit() {
-        return write_visit(text, &worker.runner().state().path);
+    if most > 1 {
+        let Ok(walk) = worker.walk(most) else {
+            return Err(AllocError);
+        };
+        return Ok(walk);
     }
-    Ok(())
-}
-
-/// Takes one step of a worker that isn't at its branch's end, and writes its visit, if it is one.
-pub fn step_on<'p, T: Table>(
-    book: &mut Book<'p>,
-    worker: &mut Worker<'p, T>,
-    text: &mut Vec<u8>,
-) -> Result<(), AllocError>
-    requires holds { HoldsTile book.old worker.old }
-    requires ahead { 0 < steps_ahead worker.old.runner }
-    ensures made { OnOk result (work book.new worker.new ≡ step_forward (work book.old worker.old)) }
-    ensures text { AddsLines result text.old text.new (next_visit worker.old.runner) }
-    ensures left { OnErr result (IsNotStepped book.old worker.old book.new worker.new) }
-    ensures holds_on { HoldsTile book.new worker.new }
-{
-    make_room(book, worker)?;
-    // Whether the step is a visit is seen where it begins.
-    note_visit(text, worker)?;
-    match worker.step() {
-        Ok(_) => Ok(()),
-        // There is a step, and room to count it: memory alone can be wanting.
-        Err(_) => Err(AllocError),
-    }
+    // One step alone is cheaper than a walk of one.
+    let Ok(event) = worker.step() else {
+        return Err(AllocError);
+    };
+    Ok(Walk { steps: 1, event })
 }
 
 /// Writes the visit that a walk came to, if it did: the path is the same after the visit's step as before it.
@@ -79,20 +68,18 @@ pub(crate) fn walk_on<'p, T: Table>(
     requires holds { HoldsTile book.old worker.old }
     requires ahead { 0 < steps_ahead worker.old.runner }
     requires some { 0 < most }
-    ensures some { IfOk result (λ steps. 0 < steps) }
-    ensures within { IfOk result (λ steps. steps ≤ step_count worker.old.runner most) }
-    ensures made { IfOk result (λ steps. Walks book.old worker.old book.new worker.new steps) }
-    ensures text { IfOk result (λ steps. WritesVisits text.old text.new worker.old.runner steps) }
-    ensures left { OnErr result (StepsSome book.old worker.old book.new worker.new most) }
-    ensures holds_on { HoldsTile book.new worker.new }
+    ensures count { IfOk result (λ n. AreSomeSteps n (step_count worker.old.runner most)) }
+    ensures made { IfOk result (λ n. Walks book.old worker.old n book.new worker.new) }
+    ensures text { IfOk result (λ n. WritesVisits text.old text.new worker.old.runner n) }
+    ensures left { OnErr result (WalksPart book.old worker.old (step_count worker.old.runner most) book.new worker.new) }
+    ensures seat { IsSeat book.new worker.old.grant.worker (Some worker.new) }
 {
+    // What is true of a book and of a runner is told by these.
     book.is_sound();
     worker.runner().is_sound();
     // With room it takes a step at least, so a loop of such walks ends.
     make_room(book, worker)?;
-    let Ok(walk) = worker.walk(most) else {
-        return Err(AllocError);
-    };
+    let walk = walk_far(worker, most)?;
     note_visited(text, walk.event, worker)?;
     Ok(walk.steps)
 }

@@ -1,159 +1,290 @@
--- Two branches at work on alike books, at the same state with the same mark: what they are asked for they answer alike.
-use Rattle.std.proofs.Common.{◌≡◌, ℕ, ◌==◌, Bool, true, false, cond, Some, [], ◌∷◌, refl, sym, ap, ◌∙◌, subst}
+-- Two alike books, each with worker 0's seat, and the same runner in both or none: an act of that worker by its own lease, or of its runner, leaves
+-- them alike, and is told alike.
+use Rattle.std.proofs.Common.{◌≡◌, ℕ, ◌==◌, Bool, true, false, cond, Option, Some, None, List, [], ◌∷◌, refl, sym, ap, ◌∙◌, subst}
+use Rattle.std.proofs.lemmas.Bool.{false≢true}
 use Rattle.shared_words.specs.Lists.{has}
-use Rattle.x_steps.specs.Run.{steps_between}
+use Rattle.cover_problem.specs.Problem.{is_same}
+use Rattle.x_steps.specs.Steps.{next, event_of}
+use Rattle.x_steps.specs.Before.{prev}
+use Rattle.x_steps.specs.declared.event.Event.TheVariants as event
 use Rattle.x_branches.specs.declared.branch.Branch.{Branch}
-use Rattle.x_branches.specs.declared.fault.RunnerFault.TheVariants.{NotAtMark}
+use Rattle.x_branches.specs.declared.fault.RunnerFault.TheVariants.{AtBranchEnd, AtMark, StretchFull, NotAtMark}
+use Rattle.x_branches.specs.Branch.{end_of}
+use Rattle.x_branches.specs.Refusals.{most_steps, untried_in, cut_at}
 use Rattle.x_branches.specs.Runner.{RunnerValue, unposted_steps}
-use Rattle.x_branches.specs.Refusals.{untried_in, cut_at}
 use Rattle.x_branches.specs.Untried.{with_choice}
+use Rattle.lab_history.specs.declared.grant.Grant.{Grant}
 use Rattle.lab_history.specs.declared.entry.Call.{Call}
 use Rattle.lab_history.specs.declared.entry.Call.TheVariants as call
 use Rattle.lab_history.specs.declared.entry.Reply.{Reply}
 use Rattle.lab_history.specs.declared.entry.Reply.TheVariants as reply
+use Rattle.lab_book.specs.States.{same_state}
+use Rattle.lab_book.specs.Calls.{post_of}
 use Rattle.lab_book.specs.Tile.{is_closed}
 use Rattle.lab_book.specs.Tiling.{tile_at}
 use Rattle.lab_book.specs.Book.{BookValue, outcome, book_step}
+use Rattle.lab_world.specs.declared.event.Act.{Act}
+use Rattle.lab_world.specs.declared.event.Act.TheVariants.{Step, Back, Lease, LeaseAny, TakeHeld, Post, Split, Retract, Park, Abandon}
+use Rattle.lab_world.specs.declared.event.Act.TheVariants.{Close, PutBack, RequestStop}
+use Rattle.lab_world.specs.declared.event.WorldReply.TheVariants as world
+use Rattle.lab_world.specs.Worker.{WorkerValue, moved_to, unposted, split_call, after_post, after_split, after_retract, after_end}
+use Rattle.lab_world.specs.World.{Turn, turn_of, stays, called, stepped, stepped_back, cut_refusal}
 use Rattle.lab_world.proofs.HoldLemmas.{own_lease}
-use Rattle.debug_language.specs.declared.words.Counted.TheVariants as counts
-use Rattle.debug_views.specs.Lines.{counted, state_line, runner_refusal}
-use Rattle.debug_acts.specs.Walk.{post_call, work_posted}
-use Rattle.debug_acts.specs.Work.{AtWork}
-use Rattle.debug_laws.proofs.WorkWords.{WorkAnswer, answered, parted, parted_line, split, book_asked, retracted_by, retract}
-use Rattle.lab_world.specs.World.{cut_refusal}
 use Rattle.lab_book_laws.specs.AlikeBooks.{AreAlikeBooks}
 use Rattle.lab_book_laws.specs.AlikeCalls.{Correspond, NameSameTile, addressed, anonymous_reply, AreAlikeOutcomes}
 use Rattle.lab_book_laws.proofs.PlaceLemmas.{cut_corresponds}
 use Rattle.lab_book_laws.proofs.CallLemmas.{call_alike}
-use Rattle.debug_laws.proofs.WorkLemmas.{IsSoundWork, asked_reply}
+use Rattle.debug_views.specs.Lines.{runner_refusal}
+use Rattle.debug_acts.specs.declared.answer.Told.{Told}
+use Rattle.debug_acts.specs.declared.answer.Told.TheVariants as told
+use Rattle.debug_acts.specs.Answer.{turn_lines}
+use Rattle.x_debug.specs.Questions.{runner_of}
+use Rattle.debug_laws.proofs.TurnLemmas.{IsSoundSeat}
+use Rattle.debug_laws.proofs.ToldLemmas.{same_runner, told_alike, IsOfWorker, done_seen}
 
 -- alike calls leave alike books
 pub step_alike : (a b : BookValue) (v w : ℕ) (c d : Call) → AreAlikeBooks a b → AreAlikeOutcomes a b (outcome a v c) (outcome b w d)
     → AreAlikeBooks (book_step a v c) (book_step b w d)
 step_alike a b v w c d k o = record { problem = k.problem; branch = k.branch; first = k.first; tiles = o.tiles }
 
--- alike books, and the same runner in the open tile of each
-pub record AreAlikeWorks (u v : AtWork) : Type 0 where
-  pub book : AreAlikeBooks u.book v.book
-  pub runner : u.worker.runner ≡ v.worker.runner
+-- alike books, and the same runner in the seat of each, or none in both
+pub record AreAlikeSeats (b : BookValue) (x : Option WorkerValue) (c : BookValue) (y : Option WorkerValue) : Type 0 where
+  pub book : AreAlikeBooks b c
+  pub runner : runner_of x ≡ runner_of y
 
-module _ (u v : AtWork) (s : IsSoundWork u) (t : IsSoundWork v) (k : AreAlikeWorks u v) where
-  -- ---- the worker's own tile
+abbrev pub Alike : Turn → Turn → Type 0
+Alike t u = AreAlikeSeats t.book t.worker u.book u.worker
 
-  own_correspond : Correspond u.book.tiles s.holds.tile.place v.book.tiles t.holds.tile.place
+-- and they are told alike
+abbrev pub AlikeTold : Told → Told → Turn → Turn → Type 0
+AlikeTold what also t u = Alike t u × (turn_lines what t ≡ turn_lines also u)
+
+-- ---- what becomes of a worker by an answer is read of its runner, and of the answer without ids and leases
+
+record Reads (becomes : WorkerValue → Reply → Option WorkerValue) : Type 0 where
+  unread : (x : WorkerValue) (z : Reply) → becomes x z ≡ becomes x (anonymous_reply z)
+  same : (x y : WorkerValue) (z : Reply) → x.runner ≡ y.runner → runner_of (becomes x z) ≡ runner_of (becomes y z)
+
+abbrev the_runner : RunnerValue → Option RunnerValue
+the_runner r = Some r
+
+end_reads : Reads after_end
+end_reads = record { unread = unread; same = same }
+  where
+    unread : (x : WorkerValue) (z : Reply) → after_end x z ≡ after_end x (anonymous_reply z)
+    unread x (reply.Leased g lo hi mark n) = refl
+    unread x _ = refl
+
+    same : (x y : WorkerValue) (z : Reply) → x.runner ≡ y.runner → runner_of (after_end x z) ≡ runner_of (after_end y z)
+    same x y reply.Done e = refl
+    same x y (reply.Leased g lo hi mark n) e = ap the_runner e
+    same x y _ e = ap the_runner e
+
+post_reads : Reads after_post
+post_reads = record { unread = unread; same = same }
+  where
+    unread : (x : WorkerValue) (z : Reply) → after_post x z ≡ after_post x (anonymous_reply z)
+    unread x (reply.Leased g lo hi mark n) = refl
+    unread x _ = refl
+
+    same : (x y : WorkerValue) (z : Reply) → x.runner ≡ y.runner → runner_of (after_post x z) ≡ runner_of (after_post y z)
+    same x y (reply.Posted stop n) e = ap (λ (r : RunnerValue). the_runner (record r { mark = r.position })) e
+    same x y (reply.Leased g lo hi mark n) e = ap the_runner e
+    same x y _ e = ap the_runner e
+
+retract_reads : Reads after_retract
+retract_reads = record { unread = unread; same = same }
+  where
+    unread : (x : WorkerValue) (z : Reply) → after_retract x z ≡ after_retract x (anonymous_reply z)
+    unread x (reply.Leased g lo hi mark n) = refl
+    unread x _ = refl
+
+    same : (x y : WorkerValue) (z : Reply) → x.runner ≡ y.runner → runner_of (after_retract x z) ≡ runner_of (after_retract y z)
+    same x y (reply.Retracted from to) e = ap (λ (r : RunnerValue). the_runner (record r { mark = from })) e
+    same x y (reply.Leased g lo hi mark n) e = ap the_runner e
+    same x y _ e = ap the_runner e
+
+split_reads : (level o : ℕ) → Reads (λ x. after_split x (cut_at x.runner level o))
+split_reads level o = record { unread = unread; same = same }
+  where
+    unread : (x : WorkerValue) (z : Reply) → after_split x (cut_at x.runner level o) z ≡ after_split x (cut_at x.runner level o) (anonymous_reply z)
+    unread x (reply.Leased g lo hi mark n) = refl
+    unread x (reply.Split id) = refl
+    unread x _ = refl
+
+    same : (x y : WorkerValue) (z : Reply) → x.runner ≡ y.runner
+        → runner_of (after_split x (cut_at x.runner level o) z) ≡ runner_of (after_split y (cut_at y.runner level o) z)
+    same x y (reply.Split id) e = ap (λ (r : RunnerValue). the_runner (record r { branch = record r.branch { hi = Some (cut_at r level o) } })) e
+    same x y (reply.Leased g lo hi mark n) e = ap the_runner e
+    same x y _ e = ap the_runner e
+
+-- ---- the worker's own tile
+
+module _ (b c : BookValue) (k : AreAlikeBooks b c) (v w : WorkerValue) (e : v.runner ≡ w.runner) (h : IsSoundSeat b (Some v))
+    (i : IsSoundSeat c (Some w)) where
+  own_correspond : Correspond b.tiles h.seat.1.tile.place c.tiles i.seat.1.tile.place
   own_correspond =
-      cut_corresponds u.book.tiles v.book.tiles s.holds.tile.place t.holds.tile.place v.book.problem v.book.branch v.book.first k.book.tiles
-      t.tiling s.holds.tile.within t.holds.tile.within (ap is_closed s.holds.tile.tile.leased)
-      (ap (λ (c : Branch). c.lo) (sym s.holds.tile.tile.branch) ∙ ap (λ (r : RunnerValue). r.branch.lo) k.runner
-      ∙ ap (λ (c : Branch). c.lo) t.holds.tile.tile.branch)
+      cut_corresponds b.tiles c.tiles h.seat.1.tile.place i.seat.1.tile.place c.problem c.branch c.first k.tiles
+      i.tiling h.seat.1.tile.within i.seat.1.tile.within (ap is_closed h.seat.1.tile.tile.leased)
+      (ap (λ (c : Branch). c.lo) (sym h.seat.1.tile.tile.branch) ∙ ap (λ (r : RunnerValue). r.branch.lo) e
+      ∙ ap (λ (c : Branch). c.lo) i.seat.1.tile.tile.branch)
 
-  same_named : NameSameTile u.book s.holds.tile.place u.worker.grant v.book t.holds.tile.place v.worker.grant
+  same_named : NameSameTile b h.seat.1.tile.place v.grant c i.seat.1.tile.place w.grant
   same_named = record {
     places = own_correspond;
-    id = sym s.holds.tile.tile.named;
-    also_id = sym t.holds.tile.tile.named;
+    id = sym h.seat.1.tile.tile.named;
+    also_id = sym i.seat.1.tile.tile.named;
     current =
-        own_lease (tile_at u.book.tiles s.holds.tile.place).status u.worker.grant s.holds.tile.tile.leased
-        ∙ sym (own_lease (tile_at v.book.tiles t.holds.tile.place).status v.worker.grant t.holds.tile.tile.leased);
+        own_lease (tile_at b.tiles h.seat.1.tile.place).status v.grant h.seat.1.tile.tile.leased
+        ∙ sym (own_lease (tile_at c.tiles i.seat.1.tile.place).status w.grant i.seat.1.tile.tile.leased);
   }
 
   -- a call of it
-  pub own_alike : (c : Call) → AreAlikeOutcomes u.book v.book (outcome u.book u.worker.grant.worker (addressed u.worker.grant c))
-      (outcome v.book v.worker.grant.worker (addressed v.worker.grant c))
-  own_alike c = (call_alike u.book v.book k.book s.tiling t.tiling u.worker.grant.worker v.worker.grant.worker s.holds.tile.place
-      t.holds.tile.place u.worker.grant v.worker.grant same_named c).0
+  own_alike : (d : Call) → AreAlikeOutcomes b c (outcome b v.grant.worker (addressed v.grant d))
+      (outcome c w.grant.worker (addressed w.grant d))
+  own_alike d = (call_alike b c k h.tiling i.tiling v.grant.worker w.grant.worker h.seat.1.tile.place
+      i.seat.1.tile.place v.grant w.grant same_named d).0
 
-  pub own_step : (c : Call) → AreAlikeBooks (book_step u.book u.worker.grant.worker (addressed u.worker.grant c))
-      (book_step v.book v.worker.grant.worker (addressed v.worker.grant c))
-  own_step c = step_alike u.book v.book u.worker.grant.worker v.worker.grant.worker (addressed u.worker.grant c)
-      (addressed v.worker.grant c) k.book (own_alike c)
-
-  -- ---- what isn't posted is posted
-
-  pub posted_alike : AreAlikeWorks (work_posted u) (work_posted v)
-  unfolding work_posted
-  posted_alike = record {
-    book = subst (λ (r : RunnerValue). AreAlikeBooks (work_posted u).book
-        (book_step v.book v.worker.grant.worker (call.Post v.worker.grant r.mark r.position true))) k.runner
-        (own_step (post_call u.worker));
-    runner = ap (λ (r : RunnerValue). record r { mark = r.position }) k.runner;
-  }
-
--- ---- many steps
-
--- ---- the tile is given up, parted, or its last stretch is taken out
-
--- the same lines, and alike branches at work
-pub record AreAlikeWorkAnswers (a b : WorkAnswer) : Type 0 where
-  pub lines : a.lines ≡ b.lines
-  pub work : AreAlikeWorks a.work b.work
-
--- ids and leases aren't read
-retracted_seen : (a : AtWork) (x : Reply) → retracted_by a x ≡ retracted_by a (anonymous_reply x)
-retracted_seen a (reply.Leased g lo hi mark n) = refl
-retracted_seen a _ = refl
-
-module _ (u v : AtWork) (s : IsSoundWork u) (t : IsSoundWork v) (k : AreAlikeWorks u v) where
-  pub parted_alike : (level o : ℕ) → AreAlikeWorks (parted u (cut_at u.worker.runner level o)) (parted v (cut_at v.worker.runner level o))
-  unfolding parted
-  parted_alike level o = record {
-    book = subst (λ (r : RunnerValue). AreAlikeBooks (parted u (cut_at u.worker.runner level o)).book
-        (book_step v.book v.worker.grant.worker (call.Split v.worker.grant (with_choice r.position level o) true))) k.runner
-        (own_step u v s t k (call.Split u.worker.grant (with_choice u.worker.runner.position level o) true));
-    runner = ap (λ (r : RunnerValue). record r { branch = record r.branch { hi = Some (cut_at r level o) } }) k.runner;
-  }
-
-  -- the book is asked for the last stretch: the answer is the same
-  pub asked_same : anonymous_reply (asked_reply u) ≡ anonymous_reply (asked_reply v)
-  asked_same = (own_alike u v s t k (call.Retract u.worker.grant)).reply
-
-  pub asked_alike : AreAlikeBooks (book_asked u) (book_asked v)
-  asked_alike = own_step u v s t k (call.Retract u.worker.grant)
-
-  -- and the lines and what is left are, as the answer says
-  retracted_by_alike : (x : Reply) → AreAlikeWorkAnswers (retracted_by u x) (retracted_by v x)
-  retracted_by_alike (reply.Retracted from to) = record {
-    lines = ap (λ (r : RunnerValue). counted counts.Retracted (steps_between r.problem from to) ∷ state_line r.position ∷ []) k.runner;
-    work = record { book = asked_alike; runner = ap (λ (r : RunnerValue). record r { mark = from }) k.runner };
-  }
-  retracted_by_alike (reply.Refused f) = record { lines = refl; work = record { book = asked_alike; runner = k.runner } }
-  retracted_by_alike _ = record { lines = refl; work = k }
-
-  taken_back : AreAlikeWorkAnswers (retracted_by u (asked_reply u)) (retracted_by v (asked_reply v))
-  taken_back =
-      subst (λ (x : WorkAnswer × WorkAnswer). AreAlikeWorkAnswers x.0 x.1)
-      (λ j. (
-        sym (retracted_seen u (asked_reply u)) j,
-        (ap (retracted_by v) asked_same ∙ sym (retracted_seen v (asked_reply v))) j,
-      ))
-      (retracted_by_alike (anonymous_reply (asked_reply u)))
-
-  pub retract_alike : AreAlikeWorkAnswers (retract u) (retract v)
-  unfolding retract
-  retract_alike =
-      subst (λ (n : ℕ). AreAlikeWorkAnswers (retract u)
-      (cond (n == 0) (retracted_by v (asked_reply v)) (answered (runner_refusal NotAtMark ∷ []) v)))
-      (ap unposted_steps k.runner) (by (unposted_steps u.worker.runner == 0))
+  -- what becomes of both by calls of it
+  own_called : (p q d : Call) → p ≡ addressed v.grant d → q ≡ addressed w.grant d → (becomes : WorkerValue → Reply → Option WorkerValue)
+      → Reads becomes → (what : Told) → IsOfWorker what
+      → AlikeTold what what (called b v.grant.worker p (becomes v)) (called c w.grant.worker q (becomes w))
+  own_called p q d f g becomes reads what of = (
+    record { book = step_alike b c v.grant.worker w.grant.worker p q k o; runner = runner },
+    told_alike b c v.grant.worker w.grant.worker p q (becomes v) (becomes w) o.reply what what (done_seen what of _ _ (becomes v x) (becomes w y) runner),
+  )
     where
-      by : (b : Bool) → AreAlikeWorkAnswers (cond b (retracted_by u (asked_reply u)) (answered (runner_refusal NotAtMark ∷ []) u))
-          (cond b (retracted_by v (asked_reply v)) (answered (runner_refusal NotAtMark ∷ []) v))
-      by true = taken_back
-      by false = record { lines = refl; work = k }
+      x : Reply
+      x = (outcome b v.grant.worker p).reply
 
-  pub split_alike : (level o : ℕ) → AreAlikeWorkAnswers (split u level o) (split v level o)
-  split_alike level o =
-      subst (λ (b : Bool). AreAlikeWorkAnswers (split u level o) (split_by v b))
-      (ap (λ (r : RunnerValue). has (untried_in r level) o) k.runner)
-      (by (has (untried_in u.worker.runner level) o))
+      y : Reply
+      y = (outcome c w.grant.worker q).reply
+
+      o : AreAlikeOutcomes b c (outcome b v.grant.worker p) (outcome c w.grant.worker q)
+      o = subst (λ (z : Call × Call). AreAlikeOutcomes b c (outcome b v.grant.worker z.0) (outcome c w.grant.worker z.1))
+          (λ j. (sym f j, sym g j)) (own_alike d)
+
+      runner : runner_of (becomes v x) ≡ runner_of (becomes w y)
+      runner = ap runner_of (reads.unread v x) ∙ ap (λ (z : Reply). runner_of (becomes v z)) o.reply ∙ reads.same v w (anonymous_reply y) e
+          ∙ sym (ap runner_of (reads.unread w y))
+
+  here : AreAlikeSeats b (Some v) c (Some w)
+  here = record { book = k; runner = ap the_runner e }
+
+  -- ---- its acts
+
+  step_told : Alike (stepped b v) (stepped c w)
+  step_told =
+      subst (λ (t : Bool × Bool). Alike (stepped b v) (way c w t.0 t.1)) (λ j. (same_state (e j).position (end_of (e j).branch.hi), unposted_steps (e j) == most_steps))
+      (by (same_state v.runner.position (end_of v.runner.branch.hi)) (unposted_steps v.runner == most_steps))
     where
-      split_by : AtWork → Bool → WorkAnswer
-      split_by a b = cond b
-          (answered (parted_line a.worker.runner (cut_at a.worker.runner level o) ∷ []) (parted a (cut_at a.worker.runner level o)))
-          (answered (runner_refusal (cut_refusal a.worker.runner level o) ∷ []) a)
+      way : BookValue → WorkerValue → Bool → Bool → Turn
+      way d z t q = cond t (stays d (Some z) (world.Runner AtBranchEnd)) (cond q (stays d (Some z) (world.Runner StretchFull)) (record {
+        reply = world.Event (event_of z.runner.problem z.runner.position);
+        book = d;
+        worker = Some (moved_to z (next z.runner.problem z.runner.position));
+      }))
 
-      by : (b : Bool) → AreAlikeWorkAnswers (split_by u b) (split_by v b)
-      by true = record {
-        lines = ap (λ (r : RunnerValue). parted_line r (cut_at r level o) ∷ []) k.runner;
-        work = parted_alike level o;
-      }
-      by false = record { lines = ap (λ (r : RunnerValue). runner_refusal (cut_refusal r level o) ∷ []) k.runner; work = k }
+      by : (t q : Bool) → Alike (way b v t q) (way c w t q)
+      by true q = here
+      by false true = here
+      by false false = record { book = k; runner = ap (λ (r : RunnerValue). the_runner (record r { position = next r.problem r.position })) e }
+
+  back_told : Alike (stepped_back b v) (stepped_back c w)
+  back_told =
+      subst (λ (t : Bool). Alike (stepped_back b v) (way c w t)) (λ j. same_state (e j).position (e j).mark) (by (same_state v.runner.position v.runner.mark))
+    where
+      way : BookValue → WorkerValue → Bool → Turn
+      way d z t = cond t (stays d (Some z) (world.Runner AtMark)) (record {
+        reply = world.Event event.Moved;
+        book = d;
+        worker = Some (moved_to z (prev z.runner.problem z.runner.position));
+      })
+
+      by : (t : Bool) → Alike (way b v t) (way c w t)
+      by true = here
+      by false = record { book = k; runner = ap (λ (r : RunnerValue). the_runner (record r { position = prev r.problem r.position })) e }
+
+  post_told : Alike (turn_of b (Some v) 0 Post) (turn_of c (Some w) 0 Post)
+  unfolding turn_of
+  post_told =
+      (own_called (post_of b.problem v.grant (unposted v)) (post_of c.problem w.grant (unposted w)) (post_of b.problem v.grant (unposted v)) refl
+      (λ j. call.Post w.grant (sym e j).mark (sym e j).position (is_same (sym e j).problem (sym k.problem j))) after_post post_reads told.Place tt).0
+
+  end_told : (p q d : Call) → p ≡ addressed v.grant d → q ≡ addressed w.grant d
+      → Alike (called b v.grant.worker p (after_end v)) (called c w.grant.worker q (after_end w))
+  end_told p q d f g = (own_called p q d f g after_end end_reads told.Place tt).0
+
+  pub split_told : (level o : ℕ) → AlikeTold (told.Parted v.runner.branch) (told.Parted w.runner.branch) (turn_of b (Some v) 0 (Split level o))
+      (turn_of c (Some w) 0 (Split level o))
+  unfolding turn_of
+  split_told level o =
+      subst (λ (t : Bool × Branch). AlikeTold (told.Parted v.runner.branch) (told.Parted t.1) (way b v (has (untried_in v.runner level) o)) (way c w t.0))
+      (λ j. (has (untried_in (e j) level) o, (e j).branch)) (by (has (untried_in v.runner level) o))
+    where
+      way : BookValue → WorkerValue → Bool → Turn
+      way d z t = cond t
+          (called d z.grant.worker (split_call z (with_choice z.runner.position level o)) (after_split z (cut_at z.runner level o)))
+          (stays d (Some z) (world.Runner (cut_refusal z.runner level o)))
+
+      by : (t : Bool) → AlikeTold (told.Parted v.runner.branch) (told.Parted v.runner.branch) (way b v t) (way c w t)
+      by true =
+          own_called (split_call v (with_choice v.runner.position level o)) (split_call w (with_choice w.runner.position level o))
+          (split_call v (with_choice v.runner.position level o)) refl (λ j. call.Split w.grant (with_choice (sym e j).position level o) true)
+          (λ x. after_split x (cut_at x.runner level o)) (split_reads level o) (told.Parted v.runner.branch) tt
+      by false = (here, ap (λ (r : RunnerValue). runner_refusal (cut_refusal r level o) ∷ []) e)
+
+  pub retract_told : AlikeTold told.Retracted told.Retracted (turn_of b (Some v) 0 Retract) (turn_of c (Some w) 0 Retract)
+  unfolding turn_of
+  retract_told =
+      subst (λ (t : Bool). AlikeTold told.Retracted told.Retracted (way b v (unposted_steps v.runner == 0)) (way c w t)) (λ j. unposted_steps (e j) == 0)
+      (by (unposted_steps v.runner == 0))
+    where
+      way : BookValue → WorkerValue → Bool → Turn
+      way d z t = cond t (called d z.grant.worker (call.Retract z.grant) (after_retract z)) (stays d (Some z) (world.Runner NotAtMark))
+
+      by : (t : Bool) → AlikeTold told.Retracted told.Retracted (way b v t) (way c w t)
+      by true = own_called (call.Retract v.grant) (call.Retract w.grant) (call.Retract v.grant) refl refl after_retract retract_reads told.Retracted tt
+      by false = (here, refl)
+
+-- an act of a worker by its own lease, or of its runner
+abbrev pub is_own : Act → Bool
+is_own Step = true
+is_own Back = true
+is_own Post = true
+is_own (Split level o) = true
+is_own Retract = true
+is_own Park = true
+is_own Abandon = true
+is_own Close = true
+is_own _ = false
+
+pub turn_alike : (b c : BookValue) (x y : Option WorkerValue) (a : Act) → is_own a ≡ true → IsSoundSeat b x → IsSoundSeat c y
+    → AreAlikeSeats b x c y → Alike (turn_of b x 0 a) (turn_of c y 0 a)
+unfolding turn_of
+turn_alike b c None (Some w) a own h i k = let e = k.runner in absurd (cc)
+turn_alike b c (Some v) None a own h i k = let e = k.runner in absurd (cc)
+turn_alike b c None None (Lease id) own h i k = absurd (false≢true own)
+turn_alike b c None None LeaseAny own h i k = absurd (false≢true own)
+turn_alike b c None None (TakeHeld id) own h i k = absurd (false≢true own)
+turn_alike b c None None (PutBack id s) own h i k = absurd (false≢true own)
+turn_alike b c None None (RequestStop id) own h i k = absurd (false≢true own)
+turn_alike b c None None _ own h i k = k
+turn_alike b c (Some v) (Some w) Step own h i k = step_told b c k.book v w (same_runner v w k.runner) h i
+turn_alike b c (Some v) (Some w) Back own h i k = back_told b c k.book v w (same_runner v w k.runner) h i
+turn_alike b c (Some v) (Some w) Post own h i k = post_told b c k.book v w (same_runner v w k.runner) h i
+turn_alike b c (Some v) (Some w) (Split level o) own h i k =
+    (split_told b c k.book v w (same_runner v w k.runner) h i level o).0
+turn_alike b c (Some v) (Some w) Retract own h i k =
+    (retract_told b c k.book v w (same_runner v w k.runner) h i).0
+turn_alike b c (Some v) (Some w) Park own h i k =
+    end_told b c k.book v w (same_runner v w k.runner) h i (call.Park v.grant) (call.Park w.grant) (call.Park v.grant) refl refl
+turn_alike b c (Some v) (Some w) Abandon own h i k =
+    end_told b c k.book v w (same_runner v w k.runner) h i (call.Abandon v.grant) (call.Abandon w.grant) (call.Abandon v.grant) refl refl
+turn_alike b c (Some v) (Some w) Close own h i k =
+    end_told b c k.book v w (same_runner v w k.runner) h i (call.Close v.grant) (call.Close w.grant) (call.Close v.grant) refl refl
+turn_alike b c (Some v) (Some w) (Lease id) own h i k = absurd (false≢true own)
+turn_alike b c (Some v) (Some w) LeaseAny own h i k = absurd (false≢true own)
+turn_alike b c (Some v) (Some w) (TakeHeld id) own h i k = absurd (false≢true own)
+turn_alike b c (Some v) (Some w) (PutBack id s) own h i k = absurd (false≢true own)
+turn_alike b c (Some v) (Some w) (RequestStop id) own h i k = absurd (false≢true own)

@@ -1,6 +1,6 @@
 -- Seated sessions that are alike answer each command, each line and each text that is loaded with the same text, and stay alike; and so do
 -- sound ones, and stay sound.
-use Rattle.std.proofs.Common.{◌≡◌, ℕ, Bool, true, false, cond, Option, Some, None, Result, Ok, Err, List, [], ◌∷◌, ◌++◌, replicate, map, length, refl, sym, ap, ◌∙◌, subst}
+use Rattle.std.proofs.Common.{◌≡◌, ℕ, ◌<◌, Bool, true, false, cond, Option, Some, None, Result, Ok, Err, List, [], ◌∷◌, ◌++◌, replicate, map, length, refl, sym, ap, ◌∙◌, subst, arith}
 use Rattle.text_lines.specs.Writing.{line_text, text_of}
 use Rattle.cover_problem.specs.Problem.{ProblemValue, is_same}
 use Rattle.x_steps.specs.StateValue.{StateValue}
@@ -11,16 +11,16 @@ use Rattle.x_snapshot.specs.Snapshot.{SnapshotValue, snapshot_with}
 use Rattle.x_snapshot.specs.Writer.{snapshot_text}
 use Rattle.x_snapshot.specs.Judged.{snapshot_of}
 use Rattle.lab_history.specs.declared.grant.Grant.{Grant}
-use Rattle.lab_history.specs.declared.fault.BookFault.TheVariants.{ForeignProblem, NotAtEnd}
+use Rattle.lab_history.specs.declared.fault.BookFault.TheVariants.{ForeignProblem, NotAtEnd, UnknownBranch}
 use Rattle.lab_history.specs.declared.entry.Call.{Call}
 use Rattle.lab_history.specs.declared.entry.Call.TheVariants as call
 use Rattle.lab_book.specs.Tile.{TileValue, is_held}
 use Rattle.lab_book.specs.Tiling.{tile_at}
 use Rattle.lab_book.specs.Book.{BookValue, outcome, book_step, cut_path}
 use Rattle.lab_world.specs.declared.event.Act.{Act}
-use Rattle.lab_world.specs.declared.event.Act.TheVariants.{Back, Post, Split, Retract, Park, Close}
+use Rattle.lab_world.specs.declared.event.Act.TheVariants.{Back, Lease, TakeHeld, Post, Split, Retract, Park, Close, PutBack, RequestStop}
 use Rattle.lab_world.specs.Worker.{WorkerValue, lent_worker}
-use Rattle.lab_world.specs.World.{turn_of}
+use Rattle.lab_world.specs.World.{Turn, turn_of, called}
 use Rattle.debug_language.specs.Command.{CommandValue}
 use Rattle.debug_language.specs.Command as command
 use Rattle.debug_language.specs.Reader.{command_of}
@@ -34,37 +34,57 @@ use Rattle.debug_views.specs.Tiles.{tile_line, place_at}
 use Rattle.debug_acts.specs.Walk.{step_count, run_count, run_lines, back_count, back_lines}
 use Rattle.debug_acts.specs.declared.answer.Told.{Told}
 use Rattle.debug_acts.specs.declared.answer.Told.TheVariants as told
-use Rattle.debug_acts.specs.Acts.{has_rest, rest_acts, end_acts, is_ended, close_acts, walk_acts}
-use Rattle.debug_acts.specs.Answer.{told_lines}
+use Rattle.debug_acts.specs.Acts.{has_rest, rest_acts, end_acts, is_ended, close_acts, enter_act, walk_acts}
 use Rattle.debug_acts.specs.Ends.{save_text, close_line}
-use Rattle.debug_acts.specs.Work.{work}
-use Rattle.debug_laws.proofs.WorkWords.{enter_call, stand_lines, entered_at, refusal_or, answer_of_tile, hold, put_back}
 use Rattle.x_debug.specs.Session.{SessionValue}
 use Rattle.x_debug.specs.Questions.{View, runner_of, view_of, question_lines}
-use Rattle.x_debug.specs.Commands.{Answer, Deed, world_of, left_by, says, with_breaks, does, ends, asks, if_open, walks, back_deed, split_deed, close_deed, enter_deed, retract_deed, hold_deed, put_back_deed, deed_of, done_by, deed_if, answer, answer_line}
-use Rattle.debug_laws.proofs.PlayedLemmas.{seen, on_workplace, on_book, split_lines, retract_lines, hold_same, put_back_same, entered_same}
-use Rattle.debug_laws.proofs.SeatLemmas.{AreAlikeSeats, AreOwn, is_own, acts_alike, own_both, own_times, walk_own, walk_alike, rest_seen, end_is_seen}
+use Rattle.x_debug.specs.Commands.{Answer, Deed, world_of, left_by, says, with_breaks, does, ends, asks, if_open, walks, at_place, back_deed, split_deed, close_deed, enter_deed, retract_deed, hold_deed, put_back_deed, deed_of, done_by, deed_if, answer, answer_line}
+use Rattle.debug_laws.proofs.ToldLemmas.{told_alike, done_seen, stop_length, back_length, tile_shown}
+use Rattle.debug_laws.proofs.SeatLemmas.{AreOwn, acts_alike, own_both, own_times, walk_own, walk_alike, rest_seen, end_is_seen}
 use Rattle.x_debug.specs.LoadedTexts.{answers, load_by, load_answer, loaded, breaks_of}
-use Rattle.lab_book_laws.specs.AlikeBooks.{open_tiles}
+use Rattle.lab_book_laws.specs.AlikeBooks.{AreAlikeBooks, open_tiles}
 use Rattle.lab_book_laws.specs.AlikeCalls.{Correspond, addressed, AreAlikeOutcomes}
 use Rattle.lab_book_laws.proofs.StatusLemmas.{held_seen}
 use Rattle.lab_book_laws.proofs.ToldLemmas.{visits_alike, steps_alike, levels_alike}
 use Rattle.lab_book_laws.proofs.PlaceLemmas.{Meet}
 use Rattle.lab_book_laws.proofs.CallLemmas.{call_alike}
 use Rattle.debug_laws.specs.AlikeSessions.{AreAlikeSessions, IsSoundSession, AreSeatedAlike, AreSoundAlike, AreSeatedAnswers, AreAlikeAnswers}
-use Rattle.debug_laws.proofs.SoundLemmas.{seat_of, work_of, answer_seated, line_seated, load_seated, answer_sound, line_sound, load_sound}
-use Rattle.debug_laws.proofs.AlikeLemmas.{AreAlikeWorks, step_alike, retract_alike, split_alike}
-use Rattle.debug_laws.proofs.TileLemmas.{lines_seen, same_line, place_meet, naming, names_same, same_refusal, runner_seen, both_open, stand_alike}
+use Rattle.debug_laws.proofs.SoundLemmas.{seat_of, seat_at, answer_seated, line_seated, load_seated, answer_sound, line_sound, load_sound}
+use Rattle.debug_laws.proofs.AlikeLemmas.{AreAlikeSeats, AlikeTold, is_own, step_alike, split_told, retract_told}
+use Rattle.debug_laws.proofs.TileLemmas.{lines_seen, same_line, place_meet, naming, names_same, runner_seen, both_open}
 
 -- the same text, and alike sessions that are left
 record Agree (x y : Answer) : Type 0 where
   pub text : x.text ≡ y.text
   pub session : AreAlikeSessions x.session y.session
 
+-- a book, with worker 0's seat and breakpoints
+abbrev seen : BookValue → List Break → Option WorkerValue → SessionValue
+seen b breaks x = record { book = b; worker = x; breaks = breaks }
+
+-- one act is done, and told alike
+asks_agree : (s t : SessionValue) (act also : Act) (what other : Told) → s.breaks ≡ t.breaks
+    → AlikeTold what other (turn_of s.book s.worker 0 act) (turn_of t.book t.worker 0 also)
+    → Agree (done_by s (asks s act what)) (done_by t (asks t also other))
+asks_agree s t act also what other e q =
+    record { text = ap text_of q.1; session = record { book = q.0.book; runner = q.0.runner; breaks = e } }
+
 -- nothing is taken out where no branch is open
-idle_lines : (b c : BookValue) → told_lines b None Retract told.Retracted ≡ told_lines c None Retract told.Retracted
+idle_told : (b c : BookValue) → AreAlikeBooks b c → AlikeTold told.Retracted told.Retracted (turn_of b None 0 Retract) (turn_of c None 0 Retract)
 unfolding turn_of
-idle_lines b c = refl
+idle_told b c k = (record { book = k; runner = refl }, refl)
+
+-- the call that enters a tile: a held one is taken, any other is leased
+abbrev enter_call : TileValue → Call
+enter_call t = cond (is_held t.status) (call.TakeHeld t.id) (call.Lease t.id)
+
+entering_is : (b : BookValue) (t : TileValue) → turn_of b None 0 (enter_act t) ≡ called b 0 (enter_call t) (lent_worker b.problem)
+unfolding turn_of
+entering_is b t = by (is_held t.status)
+  where
+    by : (held : Bool) → turn_of b None 0 (cond held (TakeHeld t.id) (Lease t.id)) ≡ called b 0 (cond held (call.TakeHeld t.id) (call.Lease t.id)) (lent_worker b.problem)
+    by true = refl
+    by false = refl
 
 module _ (a b : SessionValue) (p : AreSeatedAlike a b) where
   abbrev k : AreAlikeSessions a b
@@ -176,38 +196,19 @@ module _ (a b : SessionValue) (p : AreSeatedAlike a b) where
 
   -- ---- the branch is parted, or its last stretch is taken out
 
-  asks_agree : (act : Act) (what also : Told) → is_own act ≡ true
-      → told_lines a.book a.worker act what ≡ told_lines b.book b.worker act also
-      → Agree (done_by a (asks a act what)) (done_by b (asks b act also))
-  asks_agree act what also own lines = acts_agree (asks a act what) (asks b act also) (ap text_of lines) refl (own, tt) k.breaks
-
-  works : (v w : WorkerValue) → v.runner ≡ w.runner → AreAlikeWorks (work a.book v) (work b.book w)
-  works v w q = record { book = k.book; runner = q }
-
   split_agrees : (level o : ℕ) → Agree (done_by a (split_deed a level o)) (done_by b (split_deed b level o))
   split_agrees level o = open_agree _ _ (λ v w d e q.
-      let s = work_of a p.seated v d in
-      let t = work_of b p.also_seated w e in
-      asks_agree (Split level o) (told.Parted v.runner.branch) (told.Parted w.runner.branch) refl
-      (ap (λ (x : Option WorkerValue). told_lines a.book x (Split level o) (told.Parted v.runner.branch)) d
-      ∙ split_lines (work a.book v) s level o ∙ (split_alike (work a.book v) (work b.book w) s t (works v w q) level o).lines
-      ∙ sym (split_lines (work b.book w) t level o)
-      ∙ sym (ap (λ (x : Option WorkerValue). told_lines b.book x (Split level o) (told.Parted w.runner.branch)) e)))
+      asks_agree a b (Split level o) (Split level o) (told.Parted v.runner.branch) (told.Parted w.runner.branch) k.breaks
+      (subst (λ (x : Option WorkerValue × Option WorkerValue). AlikeTold (told.Parted v.runner.branch) (told.Parted w.runner.branch)
+      (turn_of a.book x.0 0 (Split level o)) (turn_of b.book x.1 0 (Split level o))) (λ j. (sym d j, sym e j))
+      (split_told a.book b.book k.book v w q (seat_at a p.seated v d) (seat_at b p.also_seated w e) level o)))
 
   retract_agrees : Agree (done_by a (retract_deed a)) (done_by b (retract_deed b))
-  retract_agrees = asks_agree Retract told.Retracted told.Retracted refl lines
-    where
-      working : (v w : WorkerValue) → a.worker ≡ Some v → b.worker ≡ Some w → v.runner ≡ w.runner
-          → told_lines a.book (Some v) Retract told.Retracted ≡ told_lines b.book (Some w) Retract told.Retracted
-      working v w d e q =
-          let s = work_of a p.seated v d in
-          let t = work_of b p.also_seated w e in
-          retract_lines (work a.book v) s ∙ (retract_alike (work a.book v) (work b.book w) s t (works v w q)).lines
-          ∙ sym (retract_lines (work b.book w) t)
-
-      lines : told_lines a.book a.worker Retract told.Retracted ≡ told_lines b.book b.worker Retract told.Retracted
-      lines = both_open a.worker b.worker k.runner
-          (λ x y. told_lines a.book x Retract told.Retracted ≡ told_lines b.book y Retract told.Retracted) (idle_lines a.book b.book) working
+  retract_agrees =
+      asks_agree a b Retract Retract told.Retracted told.Retracted k.breaks
+      (both_open a.worker b.worker k.runner (λ x y. AlikeTold told.Retracted told.Retracted (turn_of a.book x 0 Retract) (turn_of b.book y 0 Retract))
+      (idle_told a.book b.book k.book)
+      (λ v w d e q. retract_told a.book b.book k.book v w q (seat_at a p.seated v d) (seat_at b p.also_seated w e)))
 
   -- ---- `hold` and `putback`
 
@@ -226,49 +227,45 @@ module _ (a b : SessionValue) (p : AreSeatedAlike a b) where
         (call_alike a.book b.book k.book p.seated.tiling p.also_seated.tiling 0 0 i j (naming (tile_at a.book.tiles i))
         (naming (tile_at b.book.tiles j)) (names_same a.book b.book i j q) c).1
 
-  -- of the tile that a cut names; the call is made of the id alone
-  asked_agrees : (make : ℕ → Call) (c : Call) → ((g : Grant) → addressed g c ≡ make g.id) → (m n : Option ℕ)
-      → Meet a.book.tiles b.book.tiles m n
-      → Agree (on_book a (answer_of_tile a.book make m)) (on_book b (answer_of_tile b.book make n))
-  asked_agrees make c by_id None None q = record { text = refl; session = record { book = k.book; runner = k.runner; breaks = k.breaks } }
-  asked_agrees make c by_id (Some i) (Some j) q =
-      let d = addressed (naming (tile_at a.book.tiles i)) c in
-      let e = addressed (naming (tile_at b.book.tiles j)) c in
-      let o = named_alike i j q c in
-      subst (λ (x : Call × Call). Agree (asked a x.0 i) (asked b x.1 j))
-      (λ n. (by_id (naming (tile_at a.book.tiles i)) n, by_id (naming (tile_at b.book.tiles j)) n))
-      (record {
-        text = ap text_of (same_refusal (tile_line (tile_at (outcome a.book 0 d).tiles i) ∷ [])
-            (tile_line (tile_at (outcome b.book 0 e).tiles j) ∷ []) (outcome a.book 0 d).reply (outcome b.book 0 e).reply
-            (ap (λ (l : List (List ℕ)). l ∷ []) (named_line i j q c)) o.reply);
-        session = record { book = step_alike a.book b.book 0 0 d e k.book o; runner = k.runner; breaks = k.breaks };
-      })
-    where
-      asked : SessionValue → Call → ℕ → Answer
-      asked s d i = on_book s (record {
-        lines = refusal_or (tile_line (tile_at (book_step s.book 0 d).tiles i) ∷ []) (outcome s.book 0 d).reply;
-        book = book_step s.book 0 d;
-      })
-  asked_agrees make c by_id None (Some j) q = absurd q
-  asked_agrees make c by_id (Some i) None q = absurd q
-
-  tile_agrees : (x y : Answer) (d e : Deed) → done_by a d ≡ x → done_by b e ≡ y → Agree x y → Agree (done_by a d) (done_by b e)
-  tile_agrees x y d e l m q = subst (λ (z : Answer × Answer). Agree z.0 z.1) (λ j. (sym l j, sym m j)) q
+  -- the tile that a cut names is asked for something; the call is made of the id alone
+  tile_agrees : (act : TileValue → Act) (make : ℕ → Call) (c : Call) → ((g : Grant) → addressed g c ≡ make g.id)
+      → ((s : SessionValue) (t : TileValue) → turn_of s.book s.worker 0 (act t) ≡ called s.book 0 (make t.id) (λ r. s.worker))
+      → ((d : BookValue) (id : ℕ) → length (outcome d 0 (make id)).tiles ≡ length d.tiles) → (m n : Option ℕ) → Meet a.book.tiles b.book.tiles m n
+      → Agree (done_by a (at_place a (λ i t. asks a (act t) (told.Tile i)) m)) (done_by b (at_place b (λ i t. asks b (act t) (told.Tile i)) n))
+  tile_agrees act make c by_id is long None None q = says_agree (book_refusal UnknownBranch ∷ []) (book_refusal UnknownBranch ∷ []) refl
+  tile_agrees act make c by_id is long (Some i) (Some j) q =
+      let t = tile_at a.book.tiles i in
+      let u = tile_at b.book.tiles j in
+      let l = long a.book t.id in
+      let m = long b.book u.id in
+      let f = q.within in
+      let g = q.also_within in
+      let there : i < length (outcome a.book 0 (make t.id)).tiles = omega arith in
+      let also_there : j < length (outcome b.book 0 (make u.id)).tiles = omega arith in
+      let calls : (addressed (naming t) c, addressed (naming u) c) ≡ (make t.id, make u.id) = (λ n. (by_id (naming t) n, by_id (naming u) n)) in
+      let o = subst (λ (x : Call × Call). AreAlikeOutcomes a.book b.book (outcome a.book 0 x.0) (outcome b.book 0 x.1)) calls (named_alike i j q c) in
+      let line = subst (λ (x : Call × Call). tile_line (tile_at (outcome a.book 0 x.0).tiles i) ≡ tile_line (tile_at (outcome b.book 0 x.1).tiles j)) calls (named_line i j q c) in
+      let lines = tile_shown (outcome a.book 0 (make t.id)).tiles i there ∙ ap (λ (x : List (List ℕ)). x ∷ []) line
+      ∙ sym (tile_shown (outcome b.book 0 (make u.id)).tiles j also_there) in
+      asks_agree a b (act t) (act u) (told.Tile i) (told.Tile j) k.breaks
+      (subst (λ (x : Turn × Turn). AlikeTold (told.Tile i) (told.Tile j) x.0 x.1) (λ n. (sym (is a t) n, sym (is b u) n)) (
+        record { book = step_alike a.book b.book 0 0 (make t.id) (make u.id) k.book o; runner = k.runner },
+        told_alike a.book b.book 0 0 (make t.id) (make u.id) (λ r. a.worker) (λ r. b.worker) o.reply (told.Tile i) (told.Tile j) lines,
+      ))
+  tile_agrees act make c by_id is long None (Some j) q = absurd q
+  tile_agrees act make c by_id is long (Some i) None q = absurd q
 
   hold_agrees : (lo : Option (List ℕ)) → Agree (done_by a (hold_deed a lo)) (done_by b (hold_deed b lo))
-  unfolding hold
+  unfolding turn_of
   hold_agrees lo =
-      tile_agrees _ _ (hold_deed a lo) (hold_deed b lo) (hold_same a.book a.breaks a.worker lo) (hold_same b.book b.breaks b.worker lo)
-      (asked_agrees call.RequestStop (call.RequestStop 0) (λ g. refl) (place_at lo a.book.tiles) (place_at lo b.book.tiles)
-      (place_meet lo a.book b.book k.book))
+      tile_agrees (λ t. RequestStop t.id) call.RequestStop (call.RequestStop 0) (λ g. refl) (λ s t. refl) stop_length (place_at lo a.book.tiles)
+      (place_at lo b.book.tiles) (place_meet lo a.book b.book k.book)
 
   put_back_agrees : (lo : Option (List ℕ)) (mark : StateValue) → Agree (done_by a (put_back_deed a lo mark)) (done_by b (put_back_deed b lo mark))
-  unfolding put_back
+  unfolding turn_of
   put_back_agrees lo mark =
-      tile_agrees _ _ (put_back_deed a lo mark) (put_back_deed b lo mark) (put_back_same a.book a.breaks a.worker lo mark)
-      (put_back_same b.book b.breaks b.worker lo mark)
-      (asked_agrees (λ (id : ℕ). call.PutBack id mark) (call.PutBack 0 mark) (λ g. refl) (place_at lo a.book.tiles)
-      (place_at lo b.book.tiles) (place_meet lo a.book b.book k.book))
+      tile_agrees (λ t. PutBack t.id mark) (λ (id : ℕ). call.PutBack id mark) (call.PutBack 0 mark) (λ g. refl) (λ s t. refl)
+      (λ d id. back_length d id mark) (place_at lo a.book.tiles) (place_at lo b.book.tiles) (place_meet lo a.book b.book k.book)
 
   -- ---- `open`
 
@@ -290,42 +287,34 @@ module _ (a b : SessionValue) (p : AreSeatedAlike a b) where
       by true = named_alike i j q (call.TakeHeld 0)
       by false = named_alike i j q (call.Lease 0)
 
-  entered_agrees : (i j : ℕ) → Correspond a.book.tiles i b.book.tiles j
-      → Agree (on_workplace a (entered_at a.book (Some i))) (on_workplace b (entered_at b.book (Some j)))
-  entered_agrees i j q =
+  entered_agrees : (m n : Option ℕ) → Meet a.book.tiles b.book.tiles m n
+      → Agree (done_by (seen a.book a.breaks None) (at_place (seen a.book a.breaks None) (λ i t. asks (seen a.book a.breaks None) (enter_act t) told.Place) m))
+      (done_by (seen b.book b.breaks None) (at_place (seen b.book b.breaks None) (λ i t. asks (seen b.book b.breaks None) (enter_act t) told.Place) n))
+  entered_agrees None None q = record { text = refl; session = record { book = k.book; runner = refl; breaks = k.breaks } }
+  entered_agrees (Some i) (Some j) q =
+      let t = tile_at a.book.tiles i in
+      let u = tile_at b.book.tiles j in
       let o = enter_alike i j q in
-      let x = (outcome a.book 0 (enter_call (tile_at a.book.tiles i))).reply in
-      let y = (outcome b.book 0 (enter_call (tile_at b.book.tiles j))).reply in
+      let x = (outcome a.book 0 (enter_call t)).reply in
+      let y = (outcome b.book 0 (enter_call u)).reply in
       let runner : runner_of (lent_worker a.book.problem x) ≡ runner_of (lent_worker b.book.problem y) =
       runner_seen a.book.problem x ∙ (λ n. runner_of (lent_worker (k.book.problem n) (o.reply n))) ∙ sym (runner_seen b.book.problem y) in
-      record {
-        text = ap text_of (same_refusal (stand_lines (lent_worker a.book.problem x)) (stand_lines (lent_worker b.book.problem y)) x y
-            (stand_alike (lent_worker a.book.problem x) (lent_worker b.book.problem y) runner) o.reply);
-        session = record {
-          book = step_alike a.book b.book 0 0 (enter_call (tile_at a.book.tiles i)) (enter_call (tile_at b.book.tiles j)) k.book o;
-          runner = runner;
-          breaks = k.breaks;
-        };
-      }
-
-  found_agrees : (m n : Option ℕ) → Meet a.book.tiles b.book.tiles m n
-      → Agree (on_workplace a (entered_at a.book m)) (on_workplace b (entered_at b.book n))
-  found_agrees None None q = record { text = refl; session = record { book = k.book; runner = refl; breaks = k.breaks } }
-  found_agrees (Some i) (Some j) q = entered_agrees i j q
-  found_agrees None (Some j) q = absurd q
-  found_agrees (Some i) None q = absurd q
+      asks_agree (seen a.book a.breaks None) (seen b.book b.breaks None) (enter_act t) (enter_act u) told.Place told.Place k.breaks
+      (subst (λ (z : Turn × Turn). AlikeTold told.Place told.Place z.0 z.1) (λ n. (sym (entering_is a.book t) n, sym (entering_is b.book u) n)) (
+        record { book = step_alike a.book b.book 0 0 (enter_call t) (enter_call u) k.book o; runner = runner },
+        told_alike a.book b.book 0 0 (enter_call t) (enter_call u) (lent_worker a.book.problem) (lent_worker b.book.problem) o.reply told.Place told.Place
+            (done_seen told.Place tt (book_step a.book 0 (enter_call t)) (book_step b.book 0 (enter_call u)) (lent_worker a.book.problem x)
+            (lent_worker b.book.problem y) runner),
+      ))
+  entered_agrees None (Some j) q = absurd q
+  entered_agrees (Some i) None q = absurd q
 
   enter_agrees : (lo : Option (List ℕ)) → Agree (done_by a (enter_deed a lo)) (done_by b (enter_deed b lo))
   enter_agrees lo =
       both_open a.worker b.worker k.runner
       (λ x y. Agree (done_by (seen a.book a.breaks x) (enter_deed (seen a.book a.breaks x) lo))
       (done_by (seen b.book b.breaks y) (enter_deed (seen b.book b.breaks y) lo)))
-      (subst (λ (z : Answer × Answer). Agree z.0 z.1)
-      (λ j. (
-        sym (entered_same a.book a.breaks (place_at lo a.book.tiles)) j,
-        sym (entered_same b.book b.breaks (place_at lo b.book.tiles)) j,
-      ))
-      (found_agrees (place_at lo a.book.tiles) (place_at lo b.book.tiles) (place_meet lo a.book b.book k.book)))
+      (entered_agrees (place_at lo a.book.tiles) (place_at lo b.book.tiles) (place_meet lo a.book b.book k.book))
       (λ v w d e q. record {
         text = refl;
         session = record { book = k.book; runner = ap (λ (r : RunnerValue). Some r) q; breaks = k.breaks };

@@ -23,11 +23,9 @@ use Rattle.lab_world.specs.World.{Turn, turn_of, called, stepped, stepped_back, 
 use Rattle.lab_world.specs.Alone.{alone, own_events}
 use Rattle.lab_world.proofs.OwnLemmas.{own, found_own}
 use Rattle.lab_world.proofs.TurnLemmas.{either}
-use Rattle.debug_acts.specs.Work.{work}
 use Rattle.debug_laws.specs.AlikeSessions.{open_branches}
 use Rattle.debug_laws.proofs.LeasedLemmas.{one_less, call_counts, keeps_leases, lease_counts, take_counts, lease_any_counts}
-use Rattle.debug_laws.proofs.WorkLemmas.{IsSoundWork}
-use Rattle.debug_laws.proofs.TurnLemmas.{IsSoundSeat, at_work, turn_sound}
+use Rattle.debug_laws.proofs.TurnLemmas.{IsSoundSeat, turn_sound}
 
 -- as many tiles more are leased as branches are open
 abbrev pub Balanced : BookValue → Option WorkerValue → BookValue → Option WorkerValue → Type 0
@@ -44,9 +42,9 @@ module _ (b : BookValue) where
       let n = call_counts b w c e in
       let m = stays (outcome b w c).reply in omega arith
 
-module _ (b : BookValue) (w : WorkerValue) (p : IsSoundWork (work b w)) where
+module _ (b : BookValue) (w : WorkerValue) (p : IsSoundSeat b (Some w)) where
   abbrev its : TileValue
-  its = own b w p.tiling p.holds
+  its = own b w p.tiling p.seat.1
 
   -- its lease is ended, or the book refuses that
   end_balance : (change : TileValue → TileValue) → is_leased (change its).status ≡ false → (next : TileValue → Option BookFault) (o : Outcome)
@@ -54,14 +52,14 @@ module _ (b : BookValue) (w : WorkerValue) (p : IsSoundWork (work b w)) where
       → leased_in o.tiles + 1 ≡ leased_in b.tiles + open_branches (after_end w o.reply)
   end_balance change free next o e =
       subst (λ (o : Outcome). leased_in o.tiles + 1 ≡ leased_in b.tiles + open_branches (after_end w o.reply))
-      (sym (e ∙ ap (made_at b.tiles (settled b change)) (found_own b w p.tiling p.holds next))) (by (next its))
+      (sym (e ∙ ap (made_at b.tiles (settled b change)) (found_own b w p.tiling p.seat.1 next))) (by (next its))
     where
       made : Option BookFault → Outcome
-      made d = made_at b.tiles (settled b change) (unless p.holds.tile.place d)
+      made d = made_at b.tiles (settled b change) (unless p.seat.1.tile.place d)
 
       by : (d : Option BookFault) → leased_in (made d).tiles + 1 ≡ leased_in b.tiles + open_branches (after_end w (made d).reply)
       by None =
-          let n = one_less b.tiles p.holds.tile.place (change its) p.holds.tile.within (ap is_leased p.holds.tile.tile.leased) free in
+          let n = one_less b.tiles p.seat.1.tile.place (change its) p.seat.1.tile.within (ap is_leased p.seat.1.tile.tile.leased) free in
           omega arith
       by (Some f) = refl
 
@@ -132,9 +130,9 @@ turn_balance b (Some w) Post h =
     keeps_balance b (Some w) w.grant.worker (post_of b.problem w.grant (unposted w)) (after_post w) refl (post_open w)
 turn_balance b (Some w) (Split level o) h = split_balance b w level o
 turn_balance b (Some w) Retract h = retract_balance b w
-turn_balance b (Some w) Park h = park_balance b w (at_work b w h)
-turn_balance b (Some w) Abandon h = abandon_balance b w (at_work b w h)
-turn_balance b (Some w) Close h = close_balance b w (at_work b w h)
+turn_balance b (Some w) Park h = park_balance b w h
+turn_balance b (Some w) Abandon h = abandon_balance b w h
+turn_balance b (Some w) Close h = close_balance b w h
 turn_balance b (Some w) (PutBack id s) h = keeps_balance b (Some w) 0 (call.PutBack id s) (λ r. Some w) refl (λ r. refl)
 turn_balance b (Some w) (RequestStop id) h = keeps_balance b (Some w) 0 (call.RequestStop id) (λ r. Some w) refl (λ r. refl)
 

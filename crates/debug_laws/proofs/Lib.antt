@@ -1,12 +1,9 @@
-pub mod WorkWords
 pub mod BookLemmas
 pub mod LeasedLemmas
-pub mod WorkLemmas
-pub mod EndLemmas
-pub mod PlayedLemmas
 pub mod TurnLemmas
 pub mod BalanceLemmas
 pub mod SoundLemmas
+pub mod ToldLemmas
 pub mod AlikeLemmas
 pub mod SeatLemmas
 pub mod TileLemmas

@@ -22,13 +22,11 @@ use Rattle.lab_world.specs.World.{turn_of, worker_at, played}
 use Rattle.lab_world.specs.Alone.{alone, own_events}
 use Rattle.debug_language.specs.Command.{CommandValue}
 use Rattle.debug_views.specs.Lines.{state_line, book_refusal}
-use Rattle.debug_acts.specs.Work.{work}
 use Rattle.x_debug.specs.Session.{SessionValue, fresh_session, session_on, entered}
 use Rattle.x_debug.specs.Commands.{Deed, done_by, deed_of, deed_of_line, answer, answer_line, IsLeft, left_by}
 use Rattle.x_debug.specs.LoadedTexts.{answers, load_by, load_answer, loaded, breaks_of}
 use Rattle.debug_laws.specs.AlikeSessions.{open_branches, IsSeatedSession, IsSoundSession}
-use Rattle.debug_laws.proofs.WorkLemmas.{IsSoundWork}
-use Rattle.debug_laws.proofs.TurnLemmas.{IsSoundSeat, at_work, turn_sound, acts_sound}
+use Rattle.debug_laws.proofs.TurnLemmas.{IsSoundSeat, turn_sound, acts_sound}
 use Rattle.debug_laws.proofs.BalanceLemmas.{turn_balance, acts_balance}
 
 -- ---- a session is a book with worker 0's seat
@@ -41,13 +39,13 @@ session_of s h = record { tiling = h.tiling; seat = h.seat; runner = h.runner }
 
 -- once the first tile that waits is leased
 entered_sound : (b : BookValue) → IsTiling b.problem b.branch b.first b.tiles → leased_in b.tiles ≡ 0 → (breaks : List Break)
-    → IsSoundSession (record { book = (entered b).book; worker = (entered b).worker; breaks = breaks })
+    → IsSoundSession (record { book = (entered b).book; worker = worker_at (entered b).workers 0; breaks = breaks })
 unfolding turn_of
 entered_sound b t n breaks =
     let h : IsSoundSeat b None = record { tiling = t; seat = tt; runner = tt } in
     let m = turn_balance b None LeaseAny h in
     record {
-      seated = session_of (record { book = (entered b).book; worker = (entered b).worker; breaks = breaks }) (turn_sound b None LeaseAny h);
+      seated = session_of (record { book = (entered b).book; worker = worker_at (entered b).workers 0; breaks = breaks }) (turn_sound b None LeaseAny h);
       leased = omega arith;
     }
 
@@ -66,7 +64,7 @@ fresh_sound p =
 -- on a snapshot
 resumed_sound : (v : SnapshotValue) (breaks : List Break) → is_on_run v ≡ true → is_inside v ≡ true
     → let b = new_book v.problem (branch_between v.problem v.lo v.hi) v.state in
-    IsSoundSession (record { book = (entered b).book; worker = (entered b).worker; breaks = breaks })
+    IsSoundSession (record { book = (entered b).book; worker = worker_at (entered b).workers 0; breaks = breaks })
 resumed_sound v breaks d e =
     let on = (on_run_decides v).0 d in
     let inside = (inside_decides v on).0 e in
@@ -106,8 +104,8 @@ load_keeps P of s h bytes = by (parts_of bytes)
 -- ---- what acts leave of a seated session
 
 module _ (s : SessionValue) (h : IsSeatedSession s) where
-  pub work_of : (w : WorkerValue) → s.worker ≡ Some w → IsSoundWork (work s.book w)
-  work_of w e = at_work s.book w (subst (IsSoundSeat s.book) e (seat_of s h))
+  pub seat_at : (w : WorkerValue) → s.worker ≡ Some w → IsSoundSeat s.book (Some w)
+  seat_at w e = subst (IsSoundSeat s.book) e (seat_of s h)
 
   -- a deed of any kind
   done_seated : (d : Deed) → IsSeatedSession (done_by s d).session

@@ -15,9 +15,7 @@ use Rattle.lab_book.specs.Book.{BookValue, cut_path}
 use Rattle.lab_world.specs.Worker.{WorkerValue, lent_worker}
 use Rattle.lab_world.proofs.HoldLemmas.{own_lease}
 use Rattle.debug_language.specs.Replies.{standing_words}
-use Rattle.debug_views.specs.Lines.{state_line}
 use Rattle.debug_views.specs.Tiles.{standing_of, tile_line, same_cut, is_begun_at, place_at}
-use Rattle.debug_laws.proofs.WorkWords.{stand_lines, refusal_or}
 use Rattle.lab_book_laws.specs.AlikeBooks.{AreAlikeBooks, anonymous_status, anonymous_tile}
 use Rattle.lab_book_laws.specs.AlikeCalls.{Correspond, NameSameTile, anonymous_reply}
 use Rattle.lab_book_laws.proofs.StatusLemmas.{closed_seen, leased_seen}
@@ -90,14 +88,6 @@ names_same a b i j p = record {
 
 -- ---- what is read of a reply
 
-refusal_seen : (l : List (List (List ℕ))) (x : Reply) → refusal_or l x ≡ refusal_or l (anonymous_reply x)
-refusal_seen l (reply.Leased g lo hi mark n) = refl
-refusal_seen l _ = refl
-
-pub same_refusal : (l m : List (List (List ℕ))) (x y : Reply) → l ≡ m → anonymous_reply x ≡ anonymous_reply y
-    → refusal_or l x ≡ refusal_or m y
-same_refusal l m x y e f = refusal_seen l x ∙ ap₂ refusal_or e f ∙ sym (refusal_seen m y)
-
 pub runner_seen : (p : ProblemValue) (x : Reply) → runner_of (lent_worker p x) ≡ runner_of (lent_worker p (anonymous_reply x))
 runner_seen p (reply.Leased g lo hi mark n) = refl
 runner_seen p _ = refl
@@ -110,7 +100,3 @@ both_open None None e P none some = none
 both_open None (Some w) e P none some = absurd (cc)
 both_open (Some v) None e P none some = absurd (cc)
 both_open (Some v) (Some w) e P none some = some v w refl refl (cc)
-
-pub stand_alike : (x y : Option WorkerValue) → runner_of x ≡ runner_of y → stand_lines x ≡ stand_lines y
-stand_alike x y e =
-    both_open x y e (λ x y. stand_lines x ≡ stand_lines y) refl (λ v w a b g. ap (λ (q : RunnerValue). state_line q.position ∷ []) g)

@@ -1,51 +1,63 @@
 -- A book and worker 0's seat stay sound by each act of that worker.
-use Rattle.std.proofs.Common.{◌≡◌, ℕ, zero, suc, ◌<◌, ◌==◌, Bool, true, false, cond, Option, Some, None, List, [], ◌∷◌, refl, sym, ap, ◌∙◌, subst, arith, eq-eqb}
+use Rattle.std.proofs.Common.{◌≡◌, ℕ, zero, suc, ◌-◌, ◌<◌, ◌==◌, Bool, true, false, cond, Option, Some, None, Result, List, [], ◌∷◌, refl, sym, ap, ◌∙◌, subst, arith, eqb-true}
 use Rattle.std.proofs.lemmas.Bool.{false≢true}
+use Rattle.shared_words.specs.Lists.{has}
 use Rattle.cover_problem.specs.Problem.{ProblemValue}
 use Rattle.x_steps.specs.StateValue.{StateValue}
-use Rattle.x_branches.specs.declared.branch.Branch.{Branch}
-use Rattle.x_branches.specs.Stretch.{IsStretch}
 use Rattle.x_steps.specs.Steps.{next, event_of}
 use Rattle.x_steps.specs.Before.{prev}
+use Rattle.x_steps.specs.Run.{after}
+use Rattle.x_steps.specs.declared.event.Event.TheVariants as event
+use Rattle.x_branches.specs.declared.branch.Branch.{Branch}
+use Rattle.x_branches.specs.declared.fault.RunnerFault.TheVariants.{AtBranchEnd, AtMark, StretchFull, NotAtMark}
 use Rattle.x_branches.specs.Branch.{end_of}
-use Rattle.x_branches.specs.Refusals.{most_steps}
-use Rattle.x_branches.specs.Runner.{RunnerValue, IsRunner, IsBranch, unposted_steps}
-use Rattle.x_branches.specs.declared.fault.RunnerFault.TheVariants.{AtBranchEnd, AtMark, StretchFull}
-use Rattle.lab_history.specs.declared.fault.BookFault.TheVariants.{NotAtEnd}
+use Rattle.x_branches.specs.Cut.{IsCut, cut_state}
+use Rattle.x_branches.specs.Stretch.{StretchValue, IsStretch}
+use Rattle.x_branches.specs.Refusals.{most_steps, untried_in, cut_at}
+use Rattle.x_branches.specs.Runner.{RunnerValue, IsRunner, IsBranch, IsWithin, unposted_steps}
+use Rattle.x_branches.specs.Untried.{with_choice}
+use Rattle.x_branches.proofs.CutLemmas.{cut_fits}
+use Rattle.x_branches.proofs.StageLemmas.{comes_rank}
+use Rattle.x_branches.proofs.RunnerLemmas.{may_end}
+use Rattle.lab_history.specs.declared.fault.BookFault.{BookFault}
 use Rattle.lab_history.specs.declared.entry.Call.{Call}
 use Rattle.lab_history.specs.declared.entry.Call.TheVariants as call
 use Rattle.lab_history.specs.declared.entry.Reply.{Reply}
 use Rattle.lab_history.specs.declared.entry.Reply.TheVariants as reply
 use Rattle.lab_book.specs.States.{same_state}
-use Rattle.lab_book.specs.Tile.{TileValue, mark_of, tile_end}
+use Rattle.lab_book.specs.Tile.{TileValue, Join}
 use Rattle.lab_book.specs.Tiling.{IsTiling}
-use Rattle.lab_book.specs.Book.{BookValue, Outcome, outcome, book_step, made_at, settled, freed, unless, end_fault, else_fault}
-use Rattle.lab_book.specs.Book as book
+use Rattle.lab_book.specs.Calls.{post_of}
+use Rattle.lab_book.specs.Book.{BookValue, outcome, book_step, made_at, unless, last_stretch, retracted, retract_fault}
 use Rattle.lab_book.proofs.TileLemmas.{is_same_state, stretch_by, tile_can_start}
 use Rattle.lab_world.specs.declared.event.Act.{Act}
 use Rattle.lab_world.specs.declared.event.Act.TheVariants.{Step, Back, Lease, LeaseAny, TakeHeld, Post, Split, Retract, Park, Abandon}
 use Rattle.lab_world.specs.declared.event.Act.TheVariants.{Close, PutBack, RequestStop}
-use Rattle.x_steps.specs.declared.event.Event.TheVariants as event
 use Rattle.lab_world.specs.declared.event.WorldReply.TheVariants as world
-use Rattle.lab_world.specs.Worker.{WorkerValue, HoldsTile, moved_to, lent_worker, after_end}
-use Rattle.lab_world.specs.World.{WorldValue, Turn, IsSeat, turn_of, stays, worker_at, played}
+use Rattle.lab_world.specs.Worker.{WorkerValue, HoldsTile, moved_to, marked_at, unposted, split_call, lent_worker, after_post, after_split, after_retract, after_end}
+use Rattle.lab_world.specs.World.{Turn, IsSeat, turn_of, stays, called, cut_refusal, worker_at, played}
 use Rattle.lab_world.specs.Alone.{alone, own_events}
-use Rattle.lab_world.proofs.OwnLemmas.{own, own_is_tile, found_own}
+use Rattle.lab_world.proofs.HoldLemmas.{passed}
+use Rattle.lab_world.proofs.OwnLemmas.{Has, own, own_is_tile, found_own, last_own, some_is, retract_has}
+use Rattle.lab_world.proofs.SplitLemmas.{cut_is}
 use Rattle.lab_world.proofs.TurnLemmas.{turn_keeps}
-use Rattle.debug_acts.specs.Walk.{steps_ahead, work_posted}
-use Rattle.debug_acts.specs.Work.{AtWork, work}
+use Rattle.debug_acts.specs.Walk.{steps_ahead}
 use Rattle.debug_acts.proofs.CallLemmas.{IsOfRun, call_keeps}
-use Rattle.debug_acts.proofs.WalkLemmas.{step_within}
 use Rattle.debug_acts.proofs.BackLemmas.{none_back, back_next}
-use Rattle.debug_acts.proofs.LeadLemmas.{post_leads}
+use Rattle.debug_acts.proofs.ForwardLemmas.{to_end}
+use Rattle.debug_acts.proofs.WorkLemmas.{work, work_posted, IsWork, here_fits, start_fits, walked, posted_work, moved_work, back_runner, next_runner, can_walk}
 use Rattle.debug_laws.specs.AlikeSessions.{HasRunner}
-use Rattle.debug_laws.proofs.WorkWords.{split, retract}
-use Rattle.debug_laws.proofs.BookLemmas.{at_mark}
-use Rattle.debug_laws.proofs.WorkLemmas.{IsSoundWork, as_work, mark_within, posted_sound, back_sound, stepped_sound, split_sound, retract_sound}
-use Rattle.debug_laws.proofs.EndLemmas.{at_end}
-use Rattle.debug_laws.proofs.PlayedLemmas.{park_leads, split_leads, retract_leads}
+use Rattle.debug_laws.proofs.BookLemmas.{at_mark, to_here}
 
 -- ---- who leases a tile has a runner at its mark
+
+-- a worker's mark is within its branch
+mark_within : (b : BookValue) (x : WorkerValue) → IsTiling b.problem b.branch b.first b.tiles → HoldsTile b x
+    → IsWithin x.runner.problem x.runner.branch x.runner.mark
+mark_within b x tiling h =
+    let can = tile_can_start b.problem (own b x tiling h) (own_is_tile b x tiling h) in
+    subst (λ (q : ProblemValue × Branch × StateValue). IsWithin q.0 q.1 q.2)
+    (λ j. (sym h.problem j, sym h.tile.tile.branch j, sym h.tile.tile.mark j)) can.within
 
 mark_runner : (b : BookValue) (x : WorkerValue) → IsTiling b.problem b.branch b.first b.tiles → HoldsTile b x
     → x.runner.position ≡ x.runner.mark → IsRunner x.runner
@@ -72,133 +84,199 @@ pub record IsSoundSeat (b : BookValue) (x : Option WorkerValue) : Type 0 where
   pub seat : IsSeat b 0 x
   pub runner : HasRunner x
 
-pub at_work : (b : BookValue) (w : WorkerValue) → IsSoundSeat b (Some w) → IsSoundWork (work b w)
-at_work b w h = record { tiling = h.tiling; seat = h.seat.0; holds = h.seat.1; runner = h.runner }
-
-pub from_work : (u : AtWork) → IsSoundWork u → IsSoundSeat u.book (Some u.worker)
-from_work u p = record { tiling = p.tiling; seat = (p.seat, p.holds); runner = p.runner }
-
-free : (b : BookValue) → IsTiling b.problem b.branch b.first b.tiles → IsSoundSeat b None
-free b t = record { tiling = t; seat = tt; runner = tt }
-
 -- a turn's book and seat are
 abbrev Sound : Turn → Type 0
 Sound t = IsSoundSeat t.book t.worker
 
--- where they are others that are
-via : (t : Turn) (c : BookValue) (y : Option WorkerValue) → alone t.book t.worker ≡ alone c y → IsSoundSeat c y → Sound t
-via t c y e h = subst (λ (v : WorldValue). IsSoundSeat v.book (worker_at v.workers 0)) (sym e) h
+-- where a call leaves the seat one, and a runner in it
+called_sound : (b : BookValue) → IsTiling b.problem b.branch b.first b.tiles → (v : ℕ) (c : Call) (becomes : Reply → Option WorkerValue)
+    → IsOfRun b.problem c → IsSeat (book_step b v c) 0 (becomes (outcome b v c).reply) → HasRunner (becomes (outcome b v c).reply)
+    → Sound (called b v c becomes)
+called_sound b tiling v c becomes of seat runner = record { tiling = call_keeps b tiling v c of; seat = seat; runner = runner }
+
+pub as_work : (b : BookValue) (w : WorkerValue) → IsSoundSeat b (Some w) → IsWork (work b w)
+as_work b w h = record { tiling = h.tiling; holds = h.seat.1; runner = h.runner }
 
 some_of : (n : ℕ) → (n ≡ 0 → ⊥) → 0 < n
 some_of zero h = absurd (h refl)
 some_of (suc n) h = omega arith
 
+last_part : (p : ProblemValue) (s : StateValue) (xs : List StretchValue) (x : StretchValue) → Join p s xs → last_stretch xs ≡ Some x
+    → IsStretch p x.from x.to
+last_part p s [] x j e = absurd (cc)
+last_part p s (y ∷ []) x j e =
+    let h : y ≡ x = cc in
+    subst (λ (z : StretchValue). IsStretch p z.from z.to) h (subst (λ (t : StateValue). IsStretch p t y.to) (sym j.1) j.2)
+last_part p s (y ∷ z ∷ zs) x j e = last_part p y.to (z ∷ zs) x j.3 e
+
 -- ---- a worker with a tile
 
-module _ (b : BookValue) (w : WorkerValue) (p : IsSoundWork (work b w)) where
-  abbrev u : AtWork
-  u = work b w
-
+module _ (b : BookValue) (w : WorkerValue) (h : IsSoundSeat b (Some w)) where
   abbrev r : RunnerValue
   r = w.runner
 
-  abbrev same : IsSoundSeat b (Some w)
-  same = from_work u p
+  s : IsWork (work b w)
+  s = as_work b w h
+
+  -- it stands elsewhere
+  moved : (t : StateValue) → IsRunner (record r { position = t }) → IsSoundSeat b (Some (moved_to w t))
+  moved t k = record { tiling = h.tiling; seat = (h.seat.0, (moved_work (work b w) s t k).holds); runner = k }
+
+  at_end : steps_ahead r ≡ 0 → r.position ≡ end_of r.branch.hi
+  at_end none = ap (λ (n : ℕ). after r.problem n r.position) (sym none) ∙ (to_end r (can_walk (work b w) s)).ends
 
   step_sound : Sound (turn_of b (Some w) 0 Step)
   unfolding turn_of
-  step_sound = by (same_state r.position (end_of r.branch.hi)) refl (unposted_steps r == most_steps) refl
+  step_sound = by (same_state r.position (end_of r.branch.hi)) refl (unposted_steps r == most_steps)
     where
-      moved : same_state r.position (end_of r.branch.hi) ≡ false → (unposted_steps r == most_steps) ≡ false
-          → IsSoundSeat b (Some (moved_to w (next r.problem r.position)))
-      moved e f =
-          let some = some_of (steps_ahead r) (λ n. false≢true (sym e ∙ is_same_state r.position (end_of r.branch.hi) (at_end u p n))) in
-          let on = stepped_sound u p some in
-          from_work (work b (moved_to w (next r.problem r.position)))
-          (subst IsSoundWork (step_within u (λ n. false≢true (sym f ∙ eq-eqb (unposted_steps r) most_steps n))) on)
-
-      by : (v : Bool) → same_state r.position (end_of r.branch.hi) ≡ v → (q : Bool) → (unposted_steps r == most_steps) ≡ q
+      by : (v : Bool) → same_state r.position (end_of r.branch.hi) ≡ v → (q : Bool)
           → Sound (cond v (stays b (Some w) (world.Runner AtBranchEnd)) (cond q (stays b (Some w) (world.Runner StretchFull)) (record {
             reply = world.Event (event_of r.problem r.position);
             book = b;
             worker = Some (moved_to w (next r.problem r.position));
           })))
-      by true e q f = same
-      by false e true f = same
-      by false e false f = moved e f
+      by true e q = h
+      by false e true = h
+      by false e false =
+          let some = some_of (steps_ahead r) (λ n. false≢true (sym e ∙ is_same_state r.position (end_of r.branch.hi) (at_end n))) in
+          moved (next r.problem r.position) (next_runner (work b w) s some)
 
   step_back_sound : Sound (turn_of b (Some w) 0 Back)
   unfolding turn_of
   step_back_sound = by (same_state r.position r.mark) refl
     where
-      moved : same_state r.position r.mark ≡ false → IsSoundSeat b (Some (moved_to w (prev r.problem r.position)))
-      moved e =
-          let some = some_of (unposted_steps r) (λ n. false≢true (sym e ∙ is_same_state r.position r.mark (sym (at_mark r p.runner n)))) in
-          let there = ap (prev r.problem) (sym (none_back r p.runner)) ∙ back_next r p.runner 0 some in
-          subst (λ s. IsSoundSeat b (Some (moved_to w s))) (sym there) (from_work _ (back_sound u p 1))
-
       by : (v : Bool) → same_state r.position r.mark ≡ v
           → Sound (cond v (stays b (Some w) (world.Runner AtMark)) (record {
             reply = world.Event event.Moved;
             book = b;
             worker = Some (moved_to w (prev r.problem r.position));
           }))
-      by true e = same
-      by false e = moved e
+      by true e = h
+      by false e =
+          let some = some_of (unposted_steps r) (λ n. false≢true (sym e ∙ is_same_state r.position r.mark (sym (at_mark r h.runner n)))) in
+          let there = ap (prev r.problem) (sym (none_back r h.runner)) ∙ back_next r h.runner 0 some in
+          subst (λ t. IsSoundSeat b (Some (moved_to w t))) (sym there)
+          (moved _ (back_runner (work b w) s (unposted_steps r - 1) (omega arith)))
 
-  -- a tile that is given up
-  abandon_sound : Sound (turn_of b (Some w) 0 Abandon)
-  unfolding turn_of outcome
-  abandon_sound =
-      let done : outcome b w.grant.worker (call.Abandon w.grant) ≡ settled b freed p.holds.tile.place =
-      ap (made_at b.tiles (settled b freed)) (found_own b w p.tiling p.holds (λ (t : TileValue). None)) in
-      subst (IsSoundSeat (book_step b w.grant.worker (call.Abandon w.grant))) (sym (ap (λ (o : Outcome). after_end w o.reply) done))
-      (free _ (call_keeps b p.tiling w.grant.worker (call.Abandon w.grant) tt))
+  -- what the book's answer leaves of it has a runner
+  end_runner : (z : Reply) → HasRunner (after_end w z)
+  end_runner reply.Done = tt
+  end_runner (reply.Leased g lo hi mark n) = h.runner
+  end_runner _ = h.runner
 
-  close_sound : Sound (turn_of b (Some w) 0 Close)
-  unfolding turn_of outcome
-  close_sound = by (same_state (mark_of tile) (tile_end tile)) refl
+  post_runner : (z : Reply) → HasRunner (after_post w z)
+  unfolding work_posted
+  post_runner (reply.Posted stop n) = (posted_work (work b w) s).runner
+  post_runner (reply.Leased g lo hi mark n) = h.runner
+  post_runner _ = h.runner
+
+  -- ---- the branch is parted at an untried option
+
+  split_sound : (level o : ℕ) → Sound (turn_of b (Some w) 0 (Split level o))
+  unfolding turn_of
+  split_sound level o = by (has (untried_in r level) o) refl (turn_keeps b 0 h.tiling (Some w) (Split level o) h.seat)
+    where
+      parting : Turn
+      parting = called b w.grant.worker (split_call w (with_choice r.position level o)) (after_split w (cut_at r level o))
+
+      ended : has (untried_in r level) o ≡ true → (z : Reply) → HasRunner (after_split w (cut_at r level o) z)
+      ended e (reply.Split id) =
+          let cut = cut_is b w h.tiling h.seat.1 h.runner level o e in
+          may_end r (cut_at r level o) h.runner (start_fits (work b w) s) refl (cut_fits r.problem (with_choice r.position level o) cut.cut)
+          (comes_rank r.problem r.position (cut_state (with_choice r.position level o)) (here_fits (work b w) s) cut.later)
+      ended e (reply.Leased g lo hi mark n) = h.runner
+      ended e _ = h.runner
+
+      by : (v : Bool) → has (untried_in r level) o ≡ v
+          → IsSeat (cond v parting (stays b (Some w) (world.Runner (cut_refusal r level o)))).book 0
+          (cond v parting (stays b (Some w) (world.Runner (cut_refusal r level o)))).worker
+          → Sound (cond v parting (stays b (Some w) (world.Runner (cut_refusal r level o))))
+      by true e k =
+          let cut = cut_is b w h.tiling h.seat.1 h.runner level o e in
+          called_sound b h.tiling w.grant.worker (split_call w (with_choice r.position level o)) (after_split w (cut_at r level o))
+          (subst (λ (p : ProblemValue). IsCut p (with_choice r.position level o)) h.seat.1.problem cut.cut) k
+          (ended e (outcome b w.grant.worker (split_call w (with_choice r.position level o))).reply)
+      by false e k = h
+
+  -- ---- the last stretch is taken out
+
+  abbrev asked_reply : Reply
+  asked_reply = (outcome b w.grant.worker (call.Retract w.grant)).reply
+
+  -- it was one
+  told_stretch : (from to : StateValue) → asked_reply ≡ reply.Retracted from to → IsStretch b.problem from to
+  unfolding outcome
+  told_stretch from to e =
+      by (retract_fault tile) refl
+      (sym e ∙ ap (λ (r : Result ℕ BookFault). (made_at b.tiles (retracted b) r).reply) (found_own b w h.tiling h.seat.1 retract_fault))
     where
       tile : TileValue
-      tile = own b w p.tiling p.holds
+      tile = own b w h.tiling h.seat.1
 
-      done : (v : Bool) → same_state (mark_of tile) (tile_end tile) ≡ v
-          → outcome b w.grant.worker (call.Close w.grant) ≡ made_at b.tiles (settled b book.closed) (unless p.holds.tile.place (else_fault v NotAtEnd None))
-      done v e =
-          ap (made_at b.tiles (settled b book.closed)) (found_own b w p.tiling p.holds end_fault)
-          ∙ ap (λ (v : Bool). made_at b.tiles (settled b book.closed) (unless p.holds.tile.place (else_fault v NotAtEnd None))) e
+      last : StretchValue
+      last = last_own b w h.tiling h.seat.1
 
-      left : IsTiling b.problem b.branch b.first (outcome b w.grant.worker (call.Close w.grant)).tiles
-      left = call_keeps b p.tiling w.grant.worker (call.Close w.grant) tt
+      by : (d : Option BookFault) → retract_fault tile ≡ d
+          → reply.Retracted from to ≡ (made_at b.tiles (retracted b) (unless h.seat.1.tile.place d)).reply
+          → IsStretch b.problem from to
+      by None d e =
+          let i = own_is_tile b w h.tiling h.seat.1 in
+          let begins : last.from ≡ from = cc in
+          let ends : last.to ≡ to = cc in
+          subst (λ (x : StateValue × StateValue). IsStretch b.problem x.0 x.1) (λ j. (begins j, ends j))
+          (last_part b.problem tile.first tile.stretches last i.joins (some_is _ _ (passed _ _ _ d).0))
+      by (Some f) d e = absurd (cc)
 
-      by : (v : Bool) → same_state (mark_of tile) (tile_end tile) ≡ v
-          → IsSoundSeat (book_step b w.grant.worker (call.Close w.grant)) (after_end w (outcome b w.grant.worker (call.Close w.grant)).reply)
-      by true e =
-          subst (IsSoundSeat (book_step b w.grant.worker (call.Close w.grant))) (sym (ap (λ (o : Outcome). after_end w o.reply) (done true e)))
-          (free _ left)
-      by false e =
-          subst (IsSoundSeat (book_step b w.grant.worker (call.Close w.grant))) (sym (ap (λ (o : Outcome). after_end w o.reply) (done false e)))
-          (record {
-            tiling = left;
-            seat = subst (IsSeat (book_step b w.grant.worker (call.Close w.grant)) 0)
-                (ap (λ (o : Outcome). after_end w o.reply) (done false e)) (turn_keeps b 0 p.tiling (Some w) Close (p.seat, p.holds));
-            runner = p.runner;
-          })
+  taken_back : unposted_steps r ≡ 0 → (z : Reply) → asked_reply ≡ z → HasRunner (after_retract w z)
+  taken_back none (reply.Retracted from to) e =
+      let new = book_step b w.grant.worker (call.Retract w.grant) in
+      let mine : Has b.problem w.grant new.tiles (Some (marked_at w from)) =
+      subst (λ (z : Reply). Has b.problem w.grant new.tiles (after_retract w z)) e (retract_has b w h.tiling h.seat.1 w.grant.worker) in
+      let holds : HoldsTile new (marked_at w from) = record { problem = mine.0; tile = mine.2 } in
+      record {
+        branch = h.runner.branch;
+        stretch = subst (λ (q : ProblemValue × StateValue). IsStretch q.0 from q.1)
+            (λ j. (sym h.seat.1.problem j, to_here b w h.tiling h.seat.1 h.runner from to none e j)) (told_stretch from to e);
+        mark_in = mark_within new (marked_at w from) (call_keeps b h.tiling w.grant.worker (call.Retract w.grant) tt) holds;
+        position_in = h.runner.position_in;
+      }
+  taken_back none (reply.Leased g lo hi mark n) e = h.runner
+  taken_back none _ e = h.runner
 
--- ---- any
+  retract_sound : Sound (turn_of b (Some w) 0 Retract)
+  unfolding turn_of
+  retract_sound = by (unposted_steps r == 0) refl (turn_keeps b 0 h.tiling (Some w) Retract h.seat)
+    where
+      taking : Turn
+      taking = called b w.grant.worker (call.Retract w.grant) (after_retract w)
+
+      by : (v : Bool) → (unposted_steps r == 0) ≡ v
+          → IsSeat (cond v taking (stays b (Some w) (world.Runner NotAtMark))).book 0 (cond v taking (stays b (Some w) (world.Runner NotAtMark))).worker
+          → Sound (cond v taking (stays b (Some w) (world.Runner NotAtMark)))
+      by true e k =
+          called_sound b h.tiling w.grant.worker (call.Retract w.grant) (after_retract w) tt k
+          (taken_back (eqb-true (unposted_steps r) 0 e) asked_reply refl)
+      by false e k = h
+
+-- ---- each act
 
 module _ (b : BookValue) where
   -- a call of the book that leases no tile and ends no lease
   asked_sound : (x : Option WorkerValue) → IsSoundSeat b x → (c : Call) → IsOfRun b.problem c → IsSeat (book_step b 0 c) 0 x
       → IsSoundSeat (book_step b 0 c) x
-  asked_sound x h c r s = record { tiling = call_keeps b h.tiling 0 c r; seat = s; runner = h.runner }
+  asked_sound x h c of k = called_sound b h.tiling 0 c (λ z. x) of k h.runner
 
   -- one that leases, where none is open
   lent_sound : (c : Call) → IsSoundSeat b None → IsOfRun b.problem c → IsSeat (book_step b 0 c) 0 (lent_worker b.problem (outcome b 0 c).reply)
       → IsSoundSeat (book_step b 0 c) (lent_worker b.problem (outcome b 0 c).reply)
-  lent_sound c h r s =
-      let tiling = call_keeps b h.tiling 0 c r in
-      record { tiling = tiling; seat = s; runner = lent_runner (book_step b 0 c) tiling b.problem (outcome b 0 c).reply s }
+  lent_sound c h of k =
+      called_sound b h.tiling 0 c (lent_worker b.problem) of k
+      (lent_runner (book_step b 0 c) (call_keeps b h.tiling 0 c of) b.problem (outcome b 0 c).reply k)
+
+  -- one that ends its lease
+  ended_sound : (w : WorkerValue) → IsSoundSeat b (Some w) → (c : Call) → IsOfRun b.problem c
+      → IsSeat (book_step b w.grant.worker c) 0 (after_end w (outcome b w.grant.worker c).reply) → Sound (called b w.grant.worker c (after_end w))
+  ended_sound w h c of k = called_sound b h.tiling w.grant.worker c (after_end w) of k (end_runner b w h (outcome b w.grant.worker c).reply)
 
   pub turn_sound : (x : Option WorkerValue) (a : Act) → IsSoundSeat b x → Sound (turn_of b x 0 a)
   unfolding turn_of
@@ -208,26 +286,20 @@ module _ (b : BookValue) where
   turn_sound None (PutBack id s) h = asked_sound None h (call.PutBack id s) tt tt
   turn_sound None (RequestStop id) h = asked_sound None h (call.RequestStop id) tt tt
   turn_sound None _ h = h
-  turn_sound (Some w) Step h = step_sound b w (at_work b w h)
-  turn_sound (Some w) Back h = step_back_sound b w (at_work b w h)
+  turn_sound (Some w) Step h = step_sound b w h
+  turn_sound (Some w) Back h = step_back_sound b w h
   turn_sound (Some w) (Lease id) h = h
   turn_sound (Some w) LeaseAny h = h
   turn_sound (Some w) (TakeHeld id) h = h
   turn_sound (Some w) Post h =
-      let p = at_work b w h in
-      via (turn_of b (Some w) 0 Post) _ _ (post_leads (work b w) (as_work (work b w) p)) (from_work (work_posted (work b w)) (posted_sound (work b w) p))
-  turn_sound (Some w) (Split level o) h =
-      let p = at_work b w h in
-      via (turn_of b (Some w) 0 (Split level o)) _ _ (split_leads (work b w) p level o) (from_work (split (work b w) level o).work (split_sound (work b w) p level o))
-  turn_sound (Some w) Retract h =
-      let p = at_work b w h in
-      via (turn_of b (Some w) 0 Retract) _ _ (retract_leads (work b w) p) (from_work (retract (work b w)).work (retract_sound (work b w) p))
-  turn_sound (Some w) Park h =
-      let p = at_work b w h in
-      via (turn_of b (Some w) 0 Park) _ _ (park_leads (work b w) p)
-      (free _ (call_keeps b h.tiling w.grant.worker (call.Park w.grant) tt))
-  turn_sound (Some w) Abandon h = abandon_sound b w (at_work b w h)
-  turn_sound (Some w) Close h = close_sound b w (at_work b w h)
+      let c = post_of b.problem w.grant (unposted w) in
+      called_sound b h.tiling w.grant.worker c (after_post w) (walked (work b w) (as_work b w h)) (turn_keeps b 0 h.tiling (Some w) Post h.seat)
+      (post_runner b w h (outcome b w.grant.worker c).reply)
+  turn_sound (Some w) (Split level o) h = split_sound b w h level o
+  turn_sound (Some w) Retract h = retract_sound b w h
+  turn_sound (Some w) Park h = ended_sound w h (call.Park w.grant) tt (turn_keeps b 0 h.tiling (Some w) Park h.seat)
+  turn_sound (Some w) Abandon h = ended_sound w h (call.Abandon w.grant) tt (turn_keeps b 0 h.tiling (Some w) Abandon h.seat)
+  turn_sound (Some w) Close h = ended_sound w h (call.Close w.grant) tt (turn_keeps b 0 h.tiling (Some w) Close h.seat)
   turn_sound (Some w) (PutBack id s) h =
       asked_sound (Some w) h (call.PutBack id s) tt (turn_keeps b 0 h.tiling (Some w) (PutBack id s) h.seat)
   turn_sound (Some w) (RequestStop id) h =

@@ -38,7 +38,7 @@ session_plays s lines = sym (lines_lead s lines)
 
 -- ---- new sessions
 
-entered_plays : (b : BookValue) → alone (entered b).book (entered b).worker ≡ entered_world b
+entered_plays : (b : BookValue) → entered b ≡ entered_world b
 unfolding turn_of
 entered_plays b = refl
 

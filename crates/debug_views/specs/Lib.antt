@@ -2,4 +2,3 @@ pub mod Lines
 pub mod Breakpoints
 pub mod Overview
 pub mod Tiles
-pub mod Left

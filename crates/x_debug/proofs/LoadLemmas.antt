@@ -22,12 +22,12 @@ use Rattle.lab_history.specs.declared.entry.Call.TheVariants as call
 use Rattle.lab_book.specs.Tiling.{IsTiling}
 use Rattle.lab_book.specs.Book.{BookValue, new_book, outcome, book_step}
 use Rattle.lab_world.specs.Worker.{WorkerValue, StandsAtFirst, lent_worker}
-use Rattle.lab_world.specs.World.{IsSeat}
+use Rattle.lab_world.specs.World.{WorldValue, IsSeat}
+use Rattle.lab_world.specs.Alone.{alone}
 use Rattle.lab_world.proofs.TurnLemmas.{lease_any_seat}
 use Rattle.debug_language.specs.declared.words.Layer.TheVariants as layer
 use Rattle.debug_language.specs.Replies.{refused_words}
 use Rattle.debug_views.specs.Lines.{state_line, book_refusal, snapshot_refusal}
-use Rattle.debug_acts.specs.Workplace.{Workplace, workplace}
 use Rattle.x_debug.specs.Session.{SessionValue, entered}
 use Rattle.x_debug.specs.LoadedTexts.{resumed, with_some, seated, loaded}
 use Rattle.x_debug.specs.Commands.{Answer}
@@ -54,24 +54,24 @@ module _ (p : ProblemValue) (b : Branch) (s : StateValue) (book : BookValue) (r 
 -- a book of a snapshot of this problem, and the worker that leases its tile
 module _ (p : ProblemValue) (v : SnapshotValue) (same : v.problem ≡ p) (b new : BookValue) (x : Option WorkerValue) (fresh : b ≡ new_book p (branch_between p v.lo v.hi) v.state)
     (lease : new ≡ book_step b 0 call.LeaseAny) (worker : x ≡ lent_worker b.problem (outcome b 0 call.LeaseAny).reply) where
-  pub workplace_is : workplace new x ≡ resumed v
-  workplace_is = ap₂ workplace lease worker ∙ ap entered (fresh ∙ ap (λ (q : ProblemValue). new_book q (branch_between q v.lo v.hi) v.state) (sym same))
+  pub world_is : alone new x ≡ resumed v
+  world_is = ap₂ alone lease worker ∙ ap entered (fresh ∙ ap (λ (q : ProblemValue). new_book q (branch_between q v.lo v.hi) v.state) (sym same))
 
   pub desk_seat : IsTiling b.problem b.branch b.first b.tiles → IsSeat new 0 x
   desk_seat tiling = subst (λ (c : BookValue). IsSeat c 0 x) (sym lease) (subst (IsSeat (book_step b 0 call.LeaseAny) 0) (sym worker) (lease_any_seat b 0 tiling))
 
 -- with these, and the snapshot's breakpoints, a session goes on
-module _ (v : SnapshotValue) (b : BookValue) (x : Option WorkerValue) (made : workplace b x ≡ resumed v) where
-  pub workplace_problem : (p : ProblemValue) → v.problem ≡ p → b.problem ≡ p
-  workplace_problem p same = ap (λ (d : Workplace). d.book.problem) made ∙ same
+module _ (v : SnapshotValue) (b : BookValue) (x : Option WorkerValue) (made : alone b x ≡ resumed v) where
+  pub world_problem : (p : ProblemValue) → v.problem ≡ p → b.problem ≡ p
+  world_problem p same = ap (λ (d : WorldValue). d.book.problem) made ∙ same
 
-  pub met_by_seated : (t s : SessionValue) → t ≡ seated s (workplace b x) → (breaks : List Break) → breaks ≡ v.breaks → are_breaks v.problem v.breaks ≡ true → list_all (is_break t.book.problem) breaks ≡ true
+  pub met_by_seated : (t s : SessionValue) → t ≡ seated s (alone b x) → (breaks : List Break) → breaks ≡ v.breaks → are_breaks v.problem v.breaks ≡ true → list_all (is_break t.book.problem) breaks ≡ true
   met_by_seated t s e breaks h g =
-      let problem : t.book.problem ≡ v.problem = ap (λ (u : SessionValue). u.book.problem) e ∙ ap (λ (d : Workplace). d.book.problem) made in
+      let problem : t.book.problem ≡ v.problem = ap (λ (u : SessionValue). u.book.problem) e ∙ ap (λ (d : WorldValue). d.book.problem) made in
       rw (problem, h) (and_parts (list_all (is_break v.problem) v.breaks) (are_new v.breaks) g).0
 
-  pub loaded_is : (s t u : SessionValue) → t ≡ seated s (workplace b x) → (breaks : List Break) → breaks ≡ v.breaks → u ≡ with_some t breaks → u ≡ loaded s v
-  loaded_is s t u e breaks h f = f ∙ ap₂ with_some e h ∙ ap (λ (d : Workplace). with_some (seated s d) v.breaks) made
+  pub loaded_is : (s t u : SessionValue) → t ≡ seated s (alone b x) → (breaks : List Break) → breaks ≡ v.breaks → u ≡ with_some t breaks → u ≡ loaded s v
+  loaded_is s t u e breaks h f = f ∙ ap₂ with_some e h ∙ ap (λ (d : WorldValue). with_some (seated s d) v.breaks) made
 
 -- ---- what is answered
 

@@ -5,7 +5,6 @@ use Rattle.std.proofs.lemmas.Bool.{false≢true}
 use Rattle.cover_problem.specs.Problem.{ProblemValue}
 use Rattle.x_texts.specs.declared.breakpoint.Break.{Break}
 use Rattle.x_texts.specs.Breaks.{is_break}
-use Rattle.lab_history.specs.declared.grant.Grant.{Grant}
 use Rattle.lab_history.specs.declared.entry.Call.TheVariants as call
 use Rattle.lab_book.specs.Tiling.{IsTiling}
 use Rattle.lab_book.specs.Book.{BookValue, outcome, book_step}
@@ -14,24 +13,23 @@ use Rattle.lab_world.specs.Worker.{WorkerValue, HoldsTile, lent_worker}
 use Rattle.lab_world.specs.World.{WorldValue, IsSeat, worker_at}
 use Rattle.lab_world.specs.Alone.{alone, Leads}
 use Rattle.lab_world.proofs.TurnLemmas.{lease_any_seat}
-use Rattle.debug_acts.specs.Acts.{walk_acts, LeadsSome}
+use Rattle.debug_acts.specs.Acts.{PlaysSome, Plays}
 use Rattle.debug_acts.specs.declared.answer.Told.TheVariants as told
 use Rattle.x_debug.specs.Session.{SessionValue, IsSession, fresh_session}
-use Rattle.x_debug.specs.Commands.{Deed, world_of, if_open, left_by, done_by, IsLeftBy, MayLeave, DoesDeed, FailsDeed}
+use Rattle.x_debug.specs.Commands.{Deed, if_open, does, left_by, IsLeftBy, DoesDeed, FailsDeed}
 
 -- a session whose book and worker are others
-abbrev pub with_workplace : SessionValue → BookValue → Option WorkerValue → SessionValue
-with_workplace v b x = record { book = b; worker = x; breaks = v.breaks }
+abbrev pub with_seat : SessionValue → BookValue → Option WorkerValue → SessionValue
+with_seat v b x = record { book = b; worker = x; breaks = v.breaks }
 
 pub changed_session : (v : SessionValue) (b : BookValue) (x : Option WorkerValue) → IsSession v → b.problem ≡ v.book.problem → IsSeat b 0 x
-    → IsSession (with_workplace v b x)
+    → IsSession (with_seat v b x)
 changed_session v b x s p h = record { seat = h; breaks = subst (λ (q : ProblemValue). list_all (is_break q) v.breaks ≡ true) (sym p) s.breaks }
 
--- its worker goes on with the same lease
+-- its worker keeps its number
 pub working_session : (v : SessionValue) (w y : WorkerValue) (b : BookValue) → IsSession v → v.worker ≡ Some w → b.problem ≡ v.book.problem
-    → y.grant ≡ w.grant → HoldsTile b y → IsSession (with_workplace v b (Some y))
-working_session v w y b s at p g h =
-    changed_session v b (Some y) s p (ap (λ (x : Grant). x.worker) g ∙ (subst (IsSeat v.book 0) at s.seat).0, h)
+    → IsSeat b w.grant.worker (Some y) → IsSession (with_seat v b (Some y))
+working_session v w y b s at p h = changed_session v b (Some y) s p (h.0 ∙ (subst (IsSeat v.book 0) at s.seat).0, h.1)
 
 -- ---- a new session
 
@@ -51,17 +49,15 @@ fresh_leased p = refl
 -- ---- what acts leave
 
 module _ (v : SessionValue) (acts : List Act) (b : BookValue) (x : Option WorkerValue) where
-  pub left_is : Leads v.book v.worker acts b x → with_workplace v b x ≡ left_by v acts
+  pub left_is : Leads v.book v.worker acts b x → with_seat v b x ≡ left_by v acts
   left_is l = ap (λ (w : WorldValue). record { book = w.book; worker = worker_at w.workers 0; breaks = v.breaks }) (sym l)
 
-  pub done_left : {X E : Type 0} (r : Result X E) → OnOk r (Leads v.book v.worker acts b x) → OnOk r (with_workplace v b x ≡ left_by v acts)
-  done_left (Ok y) l = left_is l
-  done_left (Err e) l = tt
-
-pub some_left : {X E : Type 0} (r : Result X E) (v : SessionValue) (acts : List Act) (most : ℕ) (b : BookValue) (x : Option WorkerValue)
-    → OnErr r (LeadsSome v.book v.worker acts most b x) → OnErr r (IsLeftBy v acts most (with_workplace v b x))
-some_left (Ok y) v acts most b x l = tt
-some_left (Err e) v acts most b x l = record { count = l.count; within = l.within; left = left_is v (take l.count acts) b x l.leads }
+-- what a call leaves that plays acts
+pub plays_left : {X E : Type 0} (r : Result X E) (v : SessionValue) (acts : List Act) (most : ℕ) (b : BookValue) (x : Option WorkerValue)
+    → PlaysSome r v.book v.worker acts most b x → OnOk r (with_seat v b x ≡ left_by v acts) × OnErr r (IsLeftBy v acts most (with_seat v b x))
+plays_left (Ok y) v acts most b x p = (left_is v acts b x p.0, tt)
+plays_left (Err e) v acts most b x p =
+    (tt, record { count = p.1.count; within = p.1.within; left = left_is v (take p.1.count acts) b x p.1.leads })
 
 -- ---- what is answered and done, where the deed is another's
 
@@ -86,43 +82,15 @@ module _ (s : SessionValue) (f : WorkerValue → Deed) (d : Deed) where
   open_is e h = let o = one_open s.worker e in ap (λ (x : Option WorkerValue). if_open s x f) o.1 ∙ h o.0 o.1
 
 -- what is done by the worker whose branch is open
-module _ {X E : Type 0} (r : Result X E) (v : SessionValue) (w : WorkerValue) (at : v.worker ≡ Some w) (f : WorkerValue → Deed) (b : BookValue)
-    (y : Option WorkerValue) (acts : List Act) (same : acts ≡ (f w).acts) where
-  here : f w ≡ if_open v v.worker f
-  here = ap (λ (x : Option WorkerValue). if_open v x f) (sym at)
-
-  pub opened_does : (f w).breaks ≡ v.breaks → OnOk r (Leads v.book (Some w) acts b y) → DoesDeed r v (with_workplace v b y) (if_open v v.worker f)
-  opened_does k l = by r l
-    where
-      by : (r : Result X E) → OnOk r (Leads v.book (Some w) acts b y) → DoesDeed r v (with_workplace v b y) (if_open v v.worker f)
-      by (Ok z) l =
-          left_is v acts b y (subst (λ (x : Option WorkerValue). Leads v.book x acts b y) (sym at) l)
-          ∙ (λ j. record (left_by v (same j)) { breaks = sym k j }) ∙ ap (λ (d : Deed). (done_by v d).session) here
-      by (Err z) l = tt
-
-  pub opened_fails : (f w).most ≡ length acts → OnErr r (LeadsSome v.book (Some w) acts (length acts) b y)
-      → FailsDeed r v (with_workplace v b y) (if_open v v.worker f)
-  opened_fails k l = by r l
-    where
-      by : (r : Result X E) → OnErr r (LeadsSome v.book (Some w) acts (length acts) b y) → FailsDeed r v (with_workplace v b y) (if_open v v.worker f)
-      by (Ok z) l = tt
-      by (Err z) l =
-          let some = subst (λ (x : Option WorkerValue). LeadsSome v.book x acts (length acts) b y) (sym at) l in
-          let left : IsLeftBy v acts (length acts) (with_workplace v b y) = record {
-            count = some.count;
-            within = some.within;
-            left = left_is v (take some.count acts) b y some.leads;
-          } in
-          subst (λ (d : Deed). MayLeave v d (with_workplace v b y)) here
-          (subst (λ (p : List Act × ℕ). IsLeftBy v p.0 p.1 (with_workplace v b y)) (λ j. (same j, sym k j)) left)
-
--- so many steps from where it stands
-pub same_walk : (v : SessionValue) (w : WorkerValue) (n : ℕ) → v.worker ≡ Some w → walk_acts n (alone v.book (Some w)) ≡ walk_acts n (world_of v)
-same_walk v w n at = ap (λ (x : Option WorkerValue). walk_acts n (alone v.book x)) (sym at)
-
-pub same_length : (v : SessionValue) (w : WorkerValue) (n : ℕ) → v.worker ≡ Some w
-    → length (walk_acts n (world_of v)) ≡ length (walk_acts n (alone v.book (Some w)))
-same_length v w n at = ap {B = ℕ} length (sym (same_walk v w n at))
+pub open_plays : {X E : Type 0} (r : Result X E) (v : SessionValue) (w : WorkerValue) → v.worker ≡ Some w
+    → (lines : WorkerValue → List (List (List ℕ))) (acts : SessionValue → WorkerValue → List Act) (b : BookValue) (y : Option WorkerValue)
+    → Plays r v.book (Some w) (acts (with_seat v v.book (Some w)) w) b y
+    → DoesDeed r v (with_seat v b y) (if_open v v.worker (λ u. does v (lines u) (acts v u)))
+    × FailsDeed r v (with_seat v b y) (if_open v v.worker (λ u. does v (lines u) (acts v u)))
+open_plays r v w at lines acts b y p =
+    subst (λ (x : Option WorkerValue). let s = with_seat v v.book x in DoesDeed r s (with_seat v b y) (if_open s x (λ u. does s (lines u) (acts s u)))
+    × FailsDeed r s (with_seat v b y) (if_open s x (λ u. does s (lines u) (acts s u)))) (sym at)
+    (let s = with_seat v v.book (Some w) in plays_left r s (acts s w) (length (acts s w)) b y p)
 
 -- its worker holds its tile
 pub held : (v : SessionValue) (w : WorkerValue) → IsSession v → v.worker ≡ Some w → HoldsTile v.book w

@@ -12,7 +12,7 @@ use Rattle.x_snapshot.specs.Snapshot.{SnapshotValue, branch_between}
 use Rattle.x_snapshot.specs.Judged.{judged_parts, snapshot_of}
 use Rattle.lab_history.specs.declared.fault.BookFault.TheVariants.{ForeignProblem}
 use Rattle.lab_book.specs.Book.{new_book}
-use Rattle.debug_acts.specs.Workplace.{Workplace}
+use Rattle.lab_world.specs.World.{WorldValue, worker_at}
 use Rattle.debug_views.specs.Lines.{state_line, book_refusal, snapshot_refusal}
 use Rattle.x_debug.specs.Session.{SessionValue, entered}
 use Rattle.x_debug.specs.Commands.{Answer}
@@ -24,7 +24,7 @@ abbrev pub started_on : ProblemValue → SnapshotValue → RunnerValue
 started_on p v = runner_at p (branch_between p v.lo v.hi) v.state
 
 -- a book of a snapshot's branch, with its state as the first mark; worker 0 leases it
-abbrev pub resumed : SnapshotValue → Workplace
+abbrev pub resumed : SnapshotValue → WorldValue
 resumed v = entered (new_book v.problem (branch_between v.problem v.lo v.hi) v.state)
 
 -- the breakpoints of a snapshot, if it has some, else those that there are
@@ -32,17 +32,17 @@ abbrev pub breaks_of : List Break → List Break → List Break
 breaks_of old [] = old
 breaks_of old (b ∷ bs) = b ∷ bs
 
--- a session at another workplace, and one with the breakpoints of a snapshot
-abbrev pub seated : SessionValue → Workplace → SessionValue
-seated s d = record { book = d.book; worker = d.worker; breaks = s.breaks }
+-- a session in the world of another book and its worker
+abbrev pub seated : SessionValue → WorldValue → SessionValue
+seated s d = record { book = d.book; worker = worker_at d.workers 0; breaks = s.breaks }
 
 -- a session whose breakpoints are these of a snapshot, or its own where the snapshot has none
 abbrev pub with_some : SessionValue → List Break → SessionValue
 with_some s breaks = record { book = s.book; worker = s.worker; breaks = breaks_of s.breaks breaks }
 
--- session s after snapshot v was loaded: at a workplace on the snapshot, and with its breakpoints, if it has some
+-- session s after snapshot v was loaded: in the world of the snapshot, and with its breakpoints, if it has some
 abbrev pub loaded : SessionValue → SnapshotValue → SessionValue
-loaded s v = record { book = (resumed v).book; worker = (resumed v).worker; breaks = breaks_of s.breaks v.breaks }
+loaded s v = record { book = (resumed v).book; worker = worker_at (resumed v).workers 0; breaks = breaks_of s.breaks v.breaks }
 
 -- ---- what is answered
 

@@ -11,8 +11,8 @@ use Rattle.x_texts.specs.Breaks.{is_break}
 use Rattle.lab_book.specs.Book.{BookValue, new_book, outcome, book_step}
 use Rattle.lab_history.specs.declared.entry.Call.TheVariants as call
 use Rattle.lab_world.specs.Worker.{WorkerValue, lent_worker}
-use Rattle.lab_world.specs.World.{IsSeat}
-use Rattle.debug_acts.specs.Workplace.{Workplace, workplace}
+use Rattle.lab_world.specs.World.{WorldValue, IsSeat, worker_at}
+use Rattle.lab_world.specs.Alone.{alone}
 
 -- what a session has: a book, the worker whose branch is open or none, and the breakpoints in the order in which they were set
 pub record SessionValue : Type 0 where
@@ -30,8 +30,8 @@ abbrev pub position_of : Option WorkerValue → Option StateValue
 position_of worker = option_map (λ (w : WorkerValue). w.runner.position) worker
 
 -- worker 0 leases the first tile that waits
-abbrev pub entered : BookValue → Workplace
-entered b = workplace (book_step b 0 call.LeaseAny) (lent_worker b.problem (outcome b 0 call.LeaseAny).reply)
+abbrev pub entered : BookValue → WorldValue
+entered b = alone (book_step b 0 call.LeaseAny) (lent_worker b.problem (outcome b 0 call.LeaseAny).reply)
 
 -- the session of a book with no open branch and no breakpoint
 abbrev pub session_on : BookValue → SessionValue
@@ -41,4 +41,4 @@ session_on b = record { book = b; worker = None; breaks = [] }
 abbrev pub fresh_session : ProblemValue → SessionValue
 fresh_session p =
     let d = entered (new_book p (record { lo = None; hi = None }) start) in
-    record { book = d.book; worker = d.worker; breaks = [] }
+    record { book = d.book; worker = worker_at d.workers 0; breaks = [] }

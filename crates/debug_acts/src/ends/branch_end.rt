@@ -1,13 +1,13 @@
 //! A branch is closed, or the book refuses it.
-ghost use Rattle.std.specs.Prelude.{◌≡◌, ◌==◌, true, false, None, OnOk, OnErr};
+ghost use Rattle.std.specs.Prelude.{◌≡◌, ◌==◌};
 ghost use Rattle.text_lines.specs.Writes.{AddsLine};
 ghost use Rattle.lab_world.specs.Worker.{HoldsTile};
 ghost use Rattle.lab_world.specs.World.{IsSeat};
 ghost use Rattle.debug_acts.specs.Walk.{steps_ahead};
-ghost use Rattle.debug_acts.specs.Acts.{is_ended, DoesClose, DoesPartOfClose};
-ghost use Rattle.debug_acts.specs.Ends.{close_line, after_close, IsNotGiven};
+ghost use Rattle.debug_acts.specs.Acts.{is_ended, close_acts, PlaysShort};
+ghost use Rattle.debug_acts.specs.Ends.{close_line};
 
-use crate::ends::{post_and_end, seat_is_sound};
+use crate::ends::end_branch;
 use cover_problem::Table;
 use debug_language::{Plain, write_plain};
 use debug_views::write_book_fault;
@@ -38,31 +38,6 @@ fn is_ended<T: Table>(book: &Book<'_>, seat: &Option<Worker<'_, T>>) -> bool
     }
 }
 
-/// Closes a branch that is at its end, with an answer, or lets the book refuse it.
-fn close_or_refuse<'p, T: Table>(
-    alloc: Global,
-    book: &mut Book<'p>,
-    seat: &mut Option<Worker<'p, T>>,
-    text: &mut Vec<u8>,
-) -> Result<(), AllocError>
-    requires seat { IsSeat book.old 0 seat.old }
-    ensures made { DoesClose result book.old seat.old book.new seat.new }
-    ensures text { AddsLine result text.old text.new (close_line seat.old) }
-    ensures left { DoesPartOfClose result book.old seat.old book.new seat.new }
-    ensures seat { IsSeat book.new 0 seat.new }
-    ensures same_problem { book.new.problem ≡ book.old.problem }
-{
-    if is_ended(book, seat) {
-        // Without memory for the line the branch has to stay open.
-        write_plain(text, Plain::Closed)?;
-        return post_and_end(alloc, book, seat, &Act::Close);
-    }
-    // The line comes first, since the book keeps what it refused.
-    write_book_fault(text, &BookFault::NotAtEnd)?;
-    take_turn(alloc, book, seat, 0, &Act::Close)?;
-    Ok(())
-}
-
 /// `close`: at the branch's end posts what isn't posted and closes it. Before it the book refuses, which stands in its history, and
 /// the branch stays. Out of memory the branch is open still.
 pub fn close<'p, T: Table>(
@@ -72,18 +47,17 @@ pub fn close<'p, T: Table>(
     text: &mut Vec<u8>,
 ) -> Result<(), AllocError>
     requires seat { IsSeat book.old 0 seat.old }
-    ensures made { DoesClose result book.old seat.old book.new seat.new }
-    ensures ended { is_ended seat.old ≡ true → OnOk result (seat.new ≡ None) }
-    ensures stays { is_ended seat.old ≡ false → OnOk result (seat.new ≡ seat.old) }
-    ensures closed { OnOk result (book.new ≡ after_close book.old seat.old) }
+    ensures acts { PlaysShort result book.old seat.old (close_acts seat.old) book.new seat.new }
     ensures text { AddsLine result text.old text.new (close_line seat.old) }
-    ensures left { DoesPartOfClose result book.old seat.old book.new seat.new }
-    ensures not_given { OnErr result (IsNotGiven book.old seat.old book.new seat.new) }
     ensures seat { IsSeat book.new 0 seat.new }
-    ensures same_problem { book.new.problem ≡ book.old.problem }
 {
-    // What is true of a book and of a runner is told by these.
-    book.is_sound();
-    seat_is_sound(seat);
-    close_or_refuse(alloc, book, seat, text)
+    if is_ended(book, seat) {
+        // Without memory for the line the branch has to stay open.
+        write_plain(text, Plain::Closed)?;
+        return end_branch(alloc, book, seat, &Act::Close);
+    }
+    // The line comes first, since the book keeps what it refused.
+    write_book_fault(text, &BookFault::NotAtEnd)?;
+    take_turn(alloc, book, seat, 0, &Act::Close)?;
+    Ok(())
 }

@@ -1,9 +1,10 @@
 //! So many steps onward.
-ghost use Rattle.std.specs.Prelude.{◌<◌, OnOk, OnErr};
+ghost use Rattle.std.specs.Prelude.{◌<◌, Some};
 ghost use Rattle.shared_words.specs.Answers.{Returns};
 ghost use Rattle.lab_world.specs.Worker.{HoldsTile};
-ghost use Rattle.debug_acts.specs.Walk.{StepsOn, StepsSome, step_count, step_visits, step_lines, KeepsLease};
-ghost use Rattle.debug_acts.specs.Acts.{DoesStep, DoesPartOfStep};
+ghost use Rattle.lab_world.specs.World.{IsSeat};
+ghost use Rattle.debug_acts.specs.Walk.{step_count, visits_on, step_lines};
+ghost use Rattle.debug_acts.specs.Acts.{PlaysStep};
 ghost use Rattle.text_lines.specs.Writes.{AddsLines};
 
 use crate::walk::{walk_on, write_moved};
@@ -22,10 +23,9 @@ fn walk<'p, T: Table>(
 ) -> Result<u32, AllocError>
     requires holds { HoldsTile book.old worker.old }
     ensures count { Returns result (step_count worker.old.runner most) }
-    ensures made { OnOk result (StepsOn book.old worker.old book.new worker.new most) }
-    ensures text { AddsLines result text.old text.new (step_visits worker.old.runner most) }
-    ensures left { OnErr result (StepsSome book.old worker.old book.new worker.new most) }
-    ensures holds_on { HoldsTile book.new worker.new }
+    ensures acts { PlaysStep result book.old worker.old most book.new worker.new }
+    ensures text { AddsLines result text.old text.new (visits_on worker.old.runner (step_count worker.old.runner most)) }
+    ensures seat { IsSeat book.new worker.old.grant.worker (Some worker.new) }
 {
     // What is true of a book and of a runner is told by these.
     book.is_sound();
@@ -41,8 +41,8 @@ fn walk<'p, T: Table>(
     Ok(most)
 }
 
-/// Goes up to so many steps on, or refuses to at its branch's end, and writes the answer.
-fn step_told<'p, T: Table>(
+/// `step`: up to so many steps of a worker, to its branch's end at most; refused there. Out of memory it has gone some of them.
+pub fn step<'p, T: Table>(
     book: &mut Book<'p>,
     worker: &mut Worker<'p, T>,
     most: u32,
@@ -50,10 +50,9 @@ fn step_told<'p, T: Table>(
 ) -> Result<(), AllocError>
     requires holds { HoldsTile book.old worker.old }
     requires some { 0 < most }
-    ensures made { OnOk result (StepsOn book.old worker.old book.new worker.new most) }
+    ensures acts { PlaysStep result book.old worker.old most book.new worker.new }
     ensures text { AddsLines result text.old text.new (step_lines worker.old.runner most) }
-    ensures left { OnErr result (StepsSome book.old worker.old book.new worker.new most) }
-    ensures holds_on { HoldsTile book.new worker.new }
+    ensures seat { IsSeat book.new worker.old.grant.worker (Some worker.new) }
 {
     book.is_sound();
     worker.runner().is_sound();
@@ -67,27 +66,4 @@ fn step_told<'p, T: Table>(
         return write_plain(text, Plain::End);
     }
     Ok(())
-}
-
-/// `step`: up to so many steps of a worker, to its branch's end at most; refused there. Out of memory it has gone some of them.
-pub fn step<'p, T: Table>(
-    book: &mut Book<'p>,
-    worker: &mut Worker<'p, T>,
-    most: u32,
-    text: &mut Vec<u8>,
-) -> Result<(), AllocError>
-    requires holds { HoldsTile book.old worker.old }
-    requires some { 0 < most }
-    ensures made { DoesStep result book.old worker.old book.new worker.new most }
-    ensures walked { OnOk result (StepsOn book.old worker.old book.new worker.new most) }
-    ensures text { AddsLines result text.old text.new (step_lines worker.old.runner most) }
-    ensures left { DoesPartOfStep result book.old worker.old book.new worker.new most }
-    ensures walked_some { OnErr result (StepsSome book.old worker.old book.new worker.new most) }
-    ensures holds_on { HoldsTile book.new worker.new }
-    ensures kept { KeepsLease book.old worker.old book.new worker.new }
-{
-    // What is true of a book and of a runner is told by these.
-    book.is_sound();
-    worker.runner().is_sound();
-    step_told(book, worker, most, text)
 }

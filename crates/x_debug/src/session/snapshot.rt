@@ -6,7 +6,7 @@ ghost use Rattle.cover_problem.specs.Problem.{is_same};
 ghost use Rattle.x_texts.specs.Breaks.{is_break};
 ghost use Rattle.lab_book.specs.Book.{new_book};
 ghost use Rattle.lab_world.specs.World.{IsSeat};
-ghost use Rattle.debug_acts.specs.Workplace.{workplace};
+ghost use Rattle.lab_world.specs.Alone.{alone};
 ghost use Rattle.x_debug.specs.LoadedTexts.{started_on, resumed, with_some, seated, loaded, load_parts, load_answer};
 ghost use Rattle.x_debug.specs.Commands.{Replies};
 
@@ -57,7 +57,7 @@ fn desk_of<'p, T: Table>(
 ) -> Result<(Book<'p>, Worker<'p, T>), AllocError>
     requires same { draft.now.problem ≡ problem.now }
     requires runner { runner ≡ started_on problem.now draft.now }
-    ensures made { IfOk result (λ r. workplace r.0 (Some r.1) ≡ resumed draft.now) }
+    ensures made { IfOk result (λ r. alone r.0 (Some r.1) ≡ resumed draft.now) }
     ensures seat { IfOk result (λ r. IsSeat r.0 0 (Some r.1)) }
 {
     let mut book = book_at(alloc, problem, &runner)?;
@@ -72,7 +72,7 @@ impl<'p, T: Table> Session<'p, T> {
     fn sit_down(&mut self, book: Book<'p>, worker: Option<Worker<'p, T>>)
         requires problem { book.problem ≡ self.old.book.problem }
         requires seat { IsSeat book 0 worker }
-        ensures { self.new ≡ seated self.old (workplace book.entry worker.entry) }
+        ensures { self.new ≡ seated self.old (alone book.entry worker.entry) }
     {
         self.book = book;
         self.worker = worker;

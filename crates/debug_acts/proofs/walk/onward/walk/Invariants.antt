@@ -1,5 +1,5 @@
 use Rattle.std.specs.Prelude.{◌≤◌, ◌-◌}
-use Rattle.debug_acts.specs.Work.{work}
+use Rattle.debug_acts.proofs.WorkLemmas.{work}
 use Rattle.debug_acts.proofs.WalkedLemmas.{Walked}
 use Rattle.debug_acts.proofs.walk.onward.walk.Given as goal
 

@@ -1,20 +1,21 @@
 use Rattle.std.proofs.Common.{[], ◌∷◌}
-use Rattle.x_debug.proofs.SessionLemmas.{changed_session, done_left, some_left}
+use Rattle.debug_acts.proofs.LeadLemmas.{plays_problem}
+use Rattle.x_debug.proofs.SessionLemmas.{changed_session, plays_left}
 use Rattle.x_debug.proofs.session.Session.ask.Goals as goal
 
 pub invariant_of-self : goal.invariant_of-self
 invariant_of-self g c =
     changed_session (record { book = c.self.inside.book; worker = c.self.inside.worker; breaks = c.self.inside.breaks.keys })
-    c.ask.new.book c.ask.new.seat c.self.invariant c.ask.ensures.same_problem c.ask.ensures.seat
+    c.ask.new.book c.ask.new.seat c.self.invariant (plays_problem c.ask.result c.self.inside.book c.ask.new.book c.self.inside.worker c.ask.new.seat _ _ c.ask.ensures.acts) c.ask.ensures.seat
 
 pub returns-clause-session : goal.returns-clause-session
 returns-clause-session g c =
     rw (← c.self.view_is)
-    (done_left (record { book = c.self.inside.book; worker = c.self.inside.worker; breaks = c.self.inside.breaks.keys })
-    (c.args.act.now ∷ []) c.ask.new.book c.ask.new.seat c.ask.result c.ask.ensures.made)
+    (plays_left c.ask.result (record { book = c.self.inside.book; worker = c.self.inside.worker; breaks = c.self.inside.breaks.keys })
+    (c.args.act.now ∷ []) 1 c.ask.new.book c.ask.new.seat c.ask.ensures.acts).0
 
 pub returns-clause-left : goal.returns-clause-left
 returns-clause-left g c =
     rw (← c.self.view_is)
-    (some_left c.ask.result (record { book = c.self.inside.book; worker = c.self.inside.worker; breaks = c.self.inside.breaks.keys })
-    (c.args.act.now ∷ []) 1 c.ask.new.book c.ask.new.seat c.ask.ensures.left)
+    (plays_left c.ask.result (record { book = c.self.inside.book; worker = c.self.inside.worker; breaks = c.self.inside.breaks.keys })
+    (c.args.act.now ∷ []) 1 c.ask.new.book c.ask.new.seat c.ask.ensures.acts).1

@@ -3,13 +3,14 @@ use Rattle.text_lines.specs.Writing.{line_text}
 use Rattle.debug_acts.specs.Acts.{close_acts}
 use Rattle.debug_acts.specs.Ends.{close_line}
 use Rattle.x_debug.specs.Commands.{ends}
-use Rattle.x_debug.proofs.SessionLemmas.{changed_session, done_left, some_left, open_is, does_same, fails_same, tells_same}
+use Rattle.debug_acts.proofs.LeadLemmas.{plays_problem}
+use Rattle.x_debug.proofs.SessionLemmas.{changed_session, plays_left, open_is, does_same, fails_same, tells_same}
 use Rattle.x_debug.proofs.session.Session.close.Goals as goal
 
 pub invariant_of-self : goal.invariant_of-self
 invariant_of-self g c =
     changed_session (record { book = c.self.inside.book; worker = c.self.inside.worker; breaks = c.self.inside.breaks.keys })
-    c.close.new.book c.close.new.seat c.self.invariant c.close.ensures.same_problem c.close.ensures.seat
+    c.close.new.book c.close.new.seat c.self.invariant (plays_problem c.close.result c.self.inside.book c.close.new.book c.self.inside.worker c.close.new.seat _ _ c.close.ensures.acts) c.close.ensures.seat
 
 pub returns-clause-reply : goal.returns-clause-reply
 returns-clause-reply g c =
@@ -24,8 +25,8 @@ returns-clause-session g c =
     let d = ends s (line_text (close_line s.worker)) (close_acts s.worker) in
     does_same c.close.result s _ d _ (sym (open_is s (λ w. d) d c.requires (λ w e. refl)))
     (rw (← c.self.view_is)
-    (done_left (record { book = c.self.inside.book; worker = c.self.inside.worker; breaks = c.self.inside.breaks.keys })
-    (close_acts c.self.inside.worker) c.close.new.book c.close.new.seat c.close.result c.close.ensures.made))
+    (plays_left c.close.result (record { book = c.self.inside.book; worker = c.self.inside.worker; breaks = c.self.inside.breaks.keys })
+    (close_acts c.self.inside.worker) (length (close_acts c.self.inside.worker) - 1) c.close.new.book c.close.new.seat c.close.ensures.acts).0)
 
 pub returns-clause-left : goal.returns-clause-left
 returns-clause-left g c =
@@ -33,5 +34,5 @@ returns-clause-left g c =
     let d = ends s (line_text (close_line s.worker)) (close_acts s.worker) in
     fails_same c.close.result s _ d _ (sym (open_is s (λ w. d) d c.requires (λ w e. refl)))
     (rw (← c.self.view_is)
-    (some_left c.close.result (record { book = c.self.inside.book; worker = c.self.inside.worker; breaks = c.self.inside.breaks.keys })
-    (close_acts c.self.inside.worker) (length (close_acts c.self.inside.worker) - 1) c.close.new.book c.close.new.seat c.close.ensures.left))
+    (plays_left c.close.result (record { book = c.self.inside.book; worker = c.self.inside.worker; breaks = c.self.inside.breaks.keys })
+    (close_acts c.self.inside.worker) (length (close_acts c.self.inside.worker) - 1) c.close.new.book c.close.new.seat c.close.ensures.acts).1)

@@ -1,7 +1,7 @@
 use Rattle.std.proofs.Common.{◌≡◌, Some, ap, ◌∙◌}
 use Rattle.cover_problem.specs.Problem.{ProblemValue}
 use Rattle.x_debug.specs.Session.{SessionValue}
-use Rattle.x_debug.proofs.LoadLemmas.{workplace_problem, met_by_seated, loaded_is}
+use Rattle.x_debug.proofs.LoadLemmas.{world_problem, met_by_seated, loaded_is}
 use Rattle.x_debug.proofs.session.Session.resume.Goals as goal
 
 pub desk_of-requires-clause-runner : goal.desk_of-requires-clause-runner
@@ -12,7 +12,7 @@ desk_of-requires-clause-runner g c =
 
 pub sit_down-requires-clause-problem : goal.sit_down-requires-clause-problem
 sit_down-requires-clause-problem g c =
-    workplace_problem c.args.draft.now c.in_ok-book.book (Some c.in_ok-book.worker) c.in_ok-book.ensures.made c.args.self.now.book.problem c.requires.same
+    world_problem c.args.draft.now c.in_ok-book.book (Some c.in_ok-book.worker) c.in_ok-book.ensures.made c.args.self.now.book.problem c.requires.same
 
 pub take_breaks-requires : goal.take_breaks-requires
 take_breaks-requires g c =

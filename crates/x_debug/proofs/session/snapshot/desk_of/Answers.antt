@@ -1,5 +1,5 @@
 use Rattle.std.proofs.Common.{Some}
-use Rattle.x_debug.proofs.LoadLemmas.{fresh_at, stands_first, workplace_is, desk_seat}
+use Rattle.x_debug.proofs.LoadLemmas.{fresh_at, stands_first, world_is, desk_seat}
 use Rattle.x_debug.proofs.session.snapshot.desk_of.Goals as goal
 
 pub lease_with-requires-clause-first : goal.lease_with-requires-clause-first
@@ -8,7 +8,7 @@ lease_with-requires-clause-first g c =
 
 pub returns-clause-made : goal.returns-clause-made
 returns-clause-made g c =
-    workplace_is c.args.problem.now c.args.draft.now c.requires.same c.in_ok-book.book c.lease_with.new.book (Some c.in_ok-worker.worker)
+    world_is c.args.problem.now c.args.draft.now c.requires.same c.in_ok-book.book c.lease_with.new.book (Some c.in_ok-worker.worker)
     (fresh_at c.args.problem.now _ _ c.in_ok-book.book c.args.runner c.requires.runner c.in_ok-book.ensures)
     c.in_ok-worker.ensures.book c.in_ok-worker.ensures.worker
 

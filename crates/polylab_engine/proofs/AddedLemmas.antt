@@ -3,26 +3,30 @@ use Rattle.std.proofs.Common.{◌≡◌, ◌∙◌, ◌⊎◌, inl, inr, ℕ, �
 use Rattle.std.proofs.Common as common
 use Rattle.text_lines.specs.Writing.{line_text, text_of}
 use Rattle.text_lines.proofs.ResultLemmas.{ok_is, no_fault}
-use Rattle.cover_problem.specs.Problem.{ProblemValue}
+use Rattle.cover_problem.specs.Problem.{ProblemValue, IsProblem}
 use Rattle.poly_texts.specs.Puzzle.{PuzzleValue}
 use Rattle.poly_place.specs.Packings.{packing_problem}
 use Rattle.cover_counts.specs.Digits.{numeral}
+use Rattle.cover_counts.proofs.WholeLemmas.{steps_told}
 use Rattle.x_steps.specs.StateValue.{StateValue, done}
-use Rattle.x_steps.specs.Levels.{without_last_zeros}
+use Rattle.x_steps.specs.Levels.{without_last_zeros, trimmed_levels}
+use Rattle.x_steps.specs.Run.{steps_between, visits_between}
+use Rattle.x_steps.specs.Steps.{Fits}
 use Rattle.x_steps.proofs.Neighbours.{split_last_cases}
 use Rattle.x_steps.proofs.ZeroLemmas.{last_counts}
 use Rattle.x_texts.specs.Words.{visit_words}
 use Rattle.x_branches.specs.Branch.{end_of}
+use Rattle.x_branches.specs.RunOrder.{ComesBefore}
 use Rattle.x_snapshot.specs.Snapshot.{SnapshotValue, IsSnapshot, cut_if_any}
 use Rattle.part_sums.specs.declared.fault.JoinFault.{JoinFault}
 use Rattle.part_sums.specs.declared.total.Counted.{Counted}
 use Rattle.part_sums.specs.declared.total.Counted.TheVariants.{Covers, Packings}
-use Rattle.part_sums.specs.Answers.{counts_with, levels_sum, both_counts, levels_line, answer_lines, sum_lines, IsAnswer}
-use Rattle.part_sums.specs.Parts.{CountedPart, PartsJoin, IsJoined, parts_sum, sum_text}
+use Rattle.part_sums.specs.Answers.{counts_with, levels_sum, both_counts, levels_line, answer_lines, sum_lines, IsAnswer, HasNumbersOf}
+use Rattle.part_sums.specs.Parts.{CountedPart, last_state, PartsJoin, IsJoined, parts_sum, sum_text}
 use Rattle.part_sums.specs.Joining.{join_of}
 use Rattle.part_sums.proofs.AnswerLemmas.{same_answers}
 use Rattle.part_sums.proofs.FoundLemmas.{found_joined}
-use Rattle.polylab_engine.specs.Account.{ReportValue, account_of}
+use Rattle.polylab_engine.specs.Account.{ReportValue, report_with, account_of}
 use Rattle.polylab_engine.specs.Output.{level_words, total_lines, report_text, whole_report, cover_count_output}
 use Rattle.polylab_engine.specs.Packed.{count_output}
 use Rattle.polylab_engine.specs.Stretch.{stretch_report}
@@ -32,7 +36,8 @@ use Rattle.polylab_engine.specs.Added.{report_counts, AreResumed, IsWholeRun}
 use Rattle.polylab_engine.specs.Outcome.{joined_of}
 use Rattle.polylab_engine.specs.Listed.{AddsParts}
 use Rattle.polylab_engine.proofs.JoinedLemmas.{parts_join}
-use Rattle.polylab_engine.proofs.ResumeLemmas.{stops, stop_is_snapshot, rest_ended}
+use Rattle.polylab_engine.proofs.AccountLemmas.{report_of_stretch}
+use Rattle.polylab_engine.proofs.ResumeLemmas.{end_fits, stops, stop_is_snapshot, rest_ended}
 
 -- ---- the words of levels
 
@@ -100,6 +105,20 @@ resume_said v s =
 
 part_counts : (q : CountedPart) → IsSnapshot q.snapshot → IsAnswer q.counts → text_of (answer_lines q.counts) ≡ resume_output common.None false q.snapshot → q.counts ≡ report_counts (report_up_to false q.snapshot (branch_end q.snapshot))
 part_counts q s a e = same_answers q.counts (report_counts (report_up_to false q.snapshot (branch_end q.snapshot))) a.last (last_level _) (e ∙ resume_said q.snapshot s)
+
+-- ---- the numbers of an answer
+
+-- a stretch has the numbers that are reported of it
+stretch_numbers : (p : ProblemValue) (s t : StateValue) → IsProblem p → Fits p s → Fits p t → (ComesBefore p t s → ⊥) → HasNumbersOf s t (report_counts (stretch_report false p s t))
+stretch_numbers p s t is f g n =
+    let r = report_with [] (length (visits_between p s t)) (steps_between p s t) (trimmed_levels p s t) in
+    subst (λ (x : ReportValue). HasNumbersOf s t (report_counts x)) (report_of_stretch false p s t r refl refl refl refl)
+    (steps_told p s t r.visited _ _ r.levels is f g n refl refl refl refl)
+
+pub resumed_numbers : (v : SnapshotValue) → IsSnapshot v → HasNumbersOf v.state (last_state v) (report_counts (report_up_to false v (stop_of common.None v)))
+resumed_numbers v s =
+    subst (λ (t : StateValue). HasNumbersOf v.state (branch_end v) (report_counts (report_up_to false v t))) (sym (end_stop v s))
+    (stretch_numbers v.problem v.state (branch_end v) s.problem s.on_run.fits (end_fits v s) s.inside.within.not_past)
 
 -- ---- parts that join
 

@@ -13,13 +13,14 @@ use Rattle.polylab_engine.specs.declared.engine.RunEnding.{RunEnding}
 use Rattle.polylab_engine.specs.declared.engine.RunEnding.TheVariants.{Written, Refused, OutOfMemory, Pool, Unread, Unwritten}
 use Rattle.polylab_engine.specs.Outcome.{job_outcome, to_write, no_memory, pool_refusal, bad_reader, bad_writer}
 use Rattle.polylab_engine.specs.Listed.{IsListed}
+use Rattle.polylab_engine.specs.Further.{TellsFurther}
 use Rattle.polylab_engine.specs.declared.job.Job.TheVariants as jobs
 use Rattle.polylab_engine.specs.declared.job.CoverJob.TheVariants as cover_jobs
 use Rattle.polylab_engine.specs.declared.job.PuzzleJob.TheVariants as puzzle_jobs
 use Rattle.polylab_engine.specs.Jobs.{takes_commands}
 use Rattle.polylab_engine.specs.Refusals.{IsEndingOf, TellsWant, MayOfInput, NoPool, pool_faults}
-use Rattle.polylab_engine.specs.Ending.{IsOutcomeOf, IsUnread, IsEnd, IsTold, status_of}
-use Rattle.polylab_engine.proofs.ListedLemmas.{outcome_lists}
+use Rattle.polylab_engine.specs.Ending.{IsOutcomeOf, IsUnread, IsEnd, IsTold, IsProgramRun, status_of}
+use Rattle.polylab_engine.proofs.ListedLemmas.{outcome_lists, outcome_further}
 
 -- what holds of all bytes holds of those that are known
 always : {P : List ℕ → Type 0} (known : Option (List ℕ)) → ((bytes : List ℕ) → P bytes) → IfSome known P
@@ -44,7 +45,7 @@ kept job input old new h = always input.bytes (λ bytes. (0, Appends-kept old.by
 within : (job : Job) (input : Stream) (given : Result (List ℕ) (List ℕ)) (P : Type 0) → IsOutcomeOf job input given → IfSome input.bytes (λ bytes. 134217728 < length bytes → P)
 within job input given P h = IfSome_then input.bytes h (λ bytes g past. absurd (let low = g.0 in omega arith))
 
-pub status_known : (e : RunEnding) → Contains (0 ∷ 3 ∷ 4 ∷ 5 ∷ []) (status_of e)
+status_known : (e : RunEnding) → Contains (0 ∷ 3 ∷ 4 ∷ 5 ∷ []) (status_of e)
 status_known Written = (0, omega arith, refl)
 status_known (Refused line) = (1, omega arith, refl)
 status_known OutOfMemory = (2, omega arith, refl)
@@ -81,61 +82,84 @@ only_memory job r f f' e (inl t) = t
 only_memory job r f f' e (inr (fault, h, t)) = absurd (none_alone job h.0 fault e h.2)
 
 module _ (job : Job) (r r' w w' f f' : Stream) where
-  pub done_is : (e : RunEnding) → IsEnd job r r' w w' e → status_of e ≡ 0 → (text : List ℕ) × IsOutcomeOf job r (Ok text) × TakesAll w w' text
+  done_is : (e : RunEnding) → IsEnd job r r' w w' e → status_of e ≡ 0 → (text : List ℕ) × IsOutcomeOf job r (Ok text) × TakesAll w w' text
   done_is Written h s = h.1
   done_is _ h s = absurd (omega arith)
 
-  pub covers_is : (e : RunEnding) → IsEnd job r r' w w' e → status_of e ≡ 0 → (text : List ℕ) × IfSome r.bytes (λ bytes. IsListed job bytes text) × TakesAll w w' text
-  covers_is e h s = let d = done_is e h s in (d.0, IfSome_then r.bytes d.1 (λ bytes g. outcome_lists job bytes d.0 g.1), d.2)
+  covers_is : (e : RunEnding) → IsEnd job r r' w w' e → status_of e ≡ 0 → (text : List ℕ) × IfSome r.bytes (λ bytes. IsListed job bytes text) × Appends w.bytes w'.bytes text
+  covers_is e h s = let d = done_is e h s in (d.0, IfSome_then r.bytes d.1 (λ bytes g. outcome_lists job bytes d.0 g.1), d.2.0)
 
-  pub quiet_is : (e : RunEnding) → IsTold e f f' → status_of e ≡ 0 → Stays f f'
+  further_is : (e : RunEnding) → IsEnd job r r' w w' e → status_of e ≡ 0 → (text : List ℕ) × IfSome r.bytes (λ bytes. TellsFurther job bytes text) × Appends w.bytes w'.bytes text
+  further_is e h s = let d = done_is e h s in (d.0, IfSome_then r.bytes d.1 (λ bytes g. outcome_further job bytes d.0 g.1), d.2.0)
+
+  quiet_is : (e : RunEnding) → IsTold e f f' → status_of e ≡ 0 → Stays f f'
   quiet_is Written h s = h
   quiet_is _ h s = absurd (omega arith)
 
-  pub refused_is : (e : RunEnding) → IsEnd job r r' w w' e → IsTold e f f' → status_of e ≡ 3 → (line : List ℕ) × IsOutcomeOf job r (Err line) × Takes f f' line
+  refused_is : (e : RunEnding) → IsEnd job r r' w w' e → IsTold e f f' → status_of e ≡ 3 → (line : List ℕ) × IsOutcomeOf job r (Err line) × Takes f f' line
   refused_is (Refused line) h t s = (line.items, h.1, t)
   refused_is _ h t s = absurd (omega arith)
 
-  pub memory_is : (e : RunEnding) → IsTold e f f' → status_of e ≡ 4 → Takes f f' no_memory ⊎ ((fault : PoolFault) × Takes f f' (pool_refusal fault))
+  memory_is : (e : RunEnding) → IsTold e f f' → status_of e ≡ 4 → Takes f f' no_memory ⊎ ((fault : PoolFault) × Takes f f' (pool_refusal fault))
   memory_is OutOfMemory t s = inl t
   memory_is (Pool fault) t s = inr (fault, t)
   memory_is _ t s = absurd (omega arith)
 
-  pub unwritten_is : (e : RunEnding) → IsEnd job r r' w w' e → Contains (3 ∷ 4 ∷ []) (status_of e) → Stays w w'
+  unwritten_is : (e : RunEnding) → IsEnd job r r' w w' e → Contains (3 ∷ 4 ∷ []) (status_of e) → Stays w w'
   unwritten_is (Refused line) h s = h.2
   unwritten_is OutOfMemory h s = h.1
   unwritten_is (Pool fault) h s = h.1
   unwritten_is Unread h s = h.1
   unwritten_is _ h s = absurd (grind (arith, common_steps))
 
-  pub failed_is : (e : RunEnding) → IsEnd job r r' w w' e → IsTold e f f' → status_of e ≡ 5
+  failed_is : (e : RunEnding) → IsEnd job r r' w w' e → IsTold e f f' → status_of e ≡ 5
       → (IsUnread r r' × Stays w w' × Takes f f' bad_reader) ⊎ (IsSound r r' × HasFailed w' × Takes f f' bad_writer)
   failed_is Unread h t s = inl (h.0, h.1, t)
   failed_is Unwritten h t s = inr (h.0, h.1.2.1, t)
   failed_is _ h t s = absurd (omega arith)
 
-  pub reader_is : (e : RunEnding) → IsEnd job r r' w w' e → (status_of e ≡ 5 → ⊥) → IsSound r r'
+  reader_is : (e : RunEnding) → IsEnd job r r' w w' e → (status_of e ≡ 5 → ⊥) → IsSound r r'
   reader_is Unread h s = absurd (s refl)
   reader_is _ h s = h.0
 
-  pub writer_is : (e : RunEnding) → IsEnd job r r' w w' e → (status_of e ≡ 5 → ⊥) → IsSound w w'
+  writer_is : (e : RunEnding) → IsEnd job r r' w w' e → (status_of e ≡ 5 → ⊥) → IsSound w w'
   writer_is Written h s = h.1.2.1
   writer_is (Refused line) h s = h.2.1
   writer_is Unwritten h s = absurd (s refl)
   writer_is _ h s = h.1.1
 
-  pub limit_is : (e : RunEnding) → IsEnd job r r' w w' e → IfSome r.bytes (λ bytes. 134217728 < length bytes → Contains (4 ∷ 5 ∷ []) (status_of e))
+  limit_is : (e : RunEnding) → IsEnd job r r' w w' e → IfSome r.bytes (λ bytes. 134217728 < length bytes → Contains (4 ∷ 5 ∷ []) (status_of e))
   limit_is Written h = within job r (Ok h.1.0) _ h.1.1
   limit_is (Refused line) h = within job r (Err line.items) _ h.1
   limit_is OutOfMemory h = always r.bytes (λ bytes past. (0, omega arith, refl))
   limit_is (Pool fault) h = always r.bytes (λ bytes past. (0, omega arith, refl))
   limit_is _ h = always r.bytes (λ bytes past. (1, omega arith, refl))
 
-  pub beginning_is : (e : RunEnding) → IsEnd job r r' w w' e → IfSome r.bytes (λ bytes. Beginning w w' (job_outcome job bytes))
+  beginning_is : (e : RunEnding) → IsEnd job r r' w w' e → IfSome r.bytes (λ bytes. Beginning w w' (job_outcome job bytes))
   beginning_is Written h = begins job r w w' (Ok h.1.0) h.1.1 (whole w w' h.1.0 h.1.2)
   beginning_is (Refused line) h = kept job r w w' h.2
   beginning_is Unwritten h = begins job r w w' (Ok h.1.0) h.1.1 h.1.2.0
   beginning_is _ h = kept job r w w' h.1
+
+  -- all of it
+  pub run_is : (e : RunEnding) → IsEnd job r r' w w' e → IsTold e f f' → IsProgramRun job r r' w w' f f' (status_of e)
+  run_is e ends told = record {
+    covers = covers_is e ends;
+    rest = record {
+      statuses = status_known e;
+      done = done_is e ends;
+      further = further_is e ends;
+      quiet = quiet_is e told;
+      refused = refused_is e ends told;
+      memory = memory_is e told;
+      unwritten = unwritten_is e ends;
+      failed = failed_is e ends told;
+      reader_told = reader_is e ends;
+      writer_told = writer_is e ends;
+      limit = limit_is e ends;
+      beginning = beginning_is e ends;
+    };
+  }
 
 -- a text was written whole, or a part of it where the sink failed
 pub taken : {E : Type 0} (r : Result (Unit {0}) E) (old new : Stream) (text : List ℕ) → OnOk r (TakesAll old new text) → OnErr r (TakesPart old new text) → Takes old new text

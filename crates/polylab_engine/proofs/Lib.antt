@@ -10,11 +10,17 @@ pub mod JoinedLemmas
 pub mod AddedLemmas
 pub mod ClassifiedLemmas
 pub mod UpToLemmas
+mod PathLemmas
+mod MatrixLemmas
+mod PackingLemmas
+mod ShownLemmas
 mod ListedLemmas
 mod EndingLemmas
 mod DebugLemmas
 mod OutputExamples
 mod PackedExamples
 mod UpToExamples
+mod MatrixExamples
 mod JobExamples
+mod RunExamples
 mod TableExamples

@@ -4,6 +4,7 @@ use Rattle.std.proofs.Math.Nat.{eq-or-lt_of_le}
 use Rattle.std.specs.Fmt.{digits}
 use Rattle.cover_problem.specs.Covering.{active, remaining, choice}
 use Rattle.cover_problem.specs.Path.{taken, covered_by}
+use Rattle.cover_problem.specs.Problem.{ProblemValue}
 use Rattle.cover_problem.proofs.CoverExamples.{small}
 use Rattle.x_steps.specs.declared.state.Label.{Label}
 use Rattle.shared_words.specs.Lists.{numbers}
@@ -22,14 +23,9 @@ use Rattle.x_steps.specs.Levels.{without_last_zeros}
 use Rattle.polylab_engine.specs.Joined.{levels_added}
 
 -- whether a state isn't the last
-goes_on : Label → Bool
+unfoldable pub goes_on : Label → Bool
 goes_on Done = false
 goes_on _ = true
-
--- whether none of the first n states is the last
-all_go_on : ℕ → Bool
-all_go_on zero = true
-all_go_on (suc n) = all_go_on n && goes_on (after small n start).label
 
 first_of : (a b : Bool) → (a && b) ≡ true → a ≡ true
 first_of true b e = refl
@@ -39,23 +35,33 @@ other_of : (a b : Bool) → (a && b) ≡ true → b ≡ true
 other_of true b e = e
 other_of false b e = absurd (cc)
 
-last_goes_on : (n i : ℕ) → all_go_on (suc n) ≡ true → i ≡ n → (after small i start).label ≡ Done → ⊥
-unfolding all_go_on goes_on
-last_goes_on n i e same d =
-    let last : goes_on (after small n start).label ≡ true = other_of (all_go_on n) _ e in
-    let here : (after small n start).label ≡ Done = ap (λ k. (after small k start).label) (sym same) ∙ d in
-    let none : goes_on Done ≡ true = ap goes_on (sym here) ∙ last in
-    absurd (cc)
+module _ (p : ProblemValue) where
+  -- whether none of the first n states is the last
+  unfoldable pub all_go_on : ℕ → Bool
+  all_go_on zero = true
+  all_go_on (suc n) = all_go_on n && goes_on (after p n start).label
 
-each_goes_on : (n i : ℕ) → all_go_on n ≡ true → i < n → (after small i start).label ≡ Done → ⊥
-unfolding all_go_on
-each_goes_on zero i e h d = absurd (omega arith)
-each_goes_on (suc n) i e h d =
-    elim (eq-or-lt_of_le (let low : i ≤ n = omega arith in low)) [ inl same ↦ last_goes_on n i e same d | inr less ↦ each_goes_on n i (first_of (all_go_on n) _ e) less d ]
+  last_goes_on : (n i : ℕ) → all_go_on (suc n) ≡ true → i ≡ n → (after p i start).label ≡ Done → ⊥
+  unfolding all_go_on goes_on
+  last_goes_on n i e same d =
+      let last : goes_on (after p n start).label ≡ true = other_of (all_go_on n) _ e in
+      let here : (after p n start).label ≡ Done = ap (λ k. (after p k start).label) (sym same) ∙ d in
+      let none : goes_on Done ≡ true = ap goes_on (sym here) ∙ last in
+      absurd (cc)
+
+  each_goes_on : (n i : ℕ) → all_go_on n ≡ true → i < n → (after p i start).label ≡ Done → ⊥
+  unfolding all_go_on
+  each_goes_on zero i e h d = absurd (omega arith)
+  each_goes_on (suc n) i e h d =
+      elim (eq-or-lt_of_le (let low : i ≤ n = omega arith in low)) [ inl same ↦ last_goes_on n i e same d | inr less ↦ each_goes_on n i (first_of (all_go_on n) _ e) less d ]
+
+  -- the first of them is after n steps
+  pub reaches : (n : ℕ) → all_go_on n ≡ true → after p n start ≡ done → ReachesIn p start done n
+  reaches n e last = record { ends = last; goes_on = λ i. each_goes_on n i e }
 
 reaches_done : ReachesIn small start done 43
 unfolding all_go_on goes_on next covered_by taken choice active remaining
-reaches_done = record { ends = refl; goes_on = λ i. each_goes_on 43 i refl }
+reaches_done = reaches small 43 refl refl
 
 -- the report's very text for the small problem
 small_report : report_text (report_of (account_of true small (states small 43 start))) ≡ codes "visit 4 5 1" ++ 10 ∷ codes "visits 1" ++ 10 ∷ codes "steps 43" ++ 10 ∷ codes "levels 1 2 2 1" ++ 10 ∷ []

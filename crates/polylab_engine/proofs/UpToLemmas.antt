@@ -29,25 +29,13 @@ use Rattle.x_steps.proofs.VisitLemmas.{visits_rise, visits_are_covers}
 use Rattle.polylab_engine.specs.Account.{ReportValue, account_of}
 use Rattle.polylab_engine.specs.Output.{whole_report}
 use Rattle.polylab_engine.specs.UpTo.{up_to_lines, solve_up_to_output, count_up_to_output, options_up_to_output}
-use Rattle.polylab_engine.specs.Listed.{ArePackingPaths, ListsDistinct, CountsDistinct, GivesSmaller}
+use Rattle.polylab_engine.specs.Listed.{AreAllPackings, packing_of, ListsDistinct, CountsDistinct, GivesSmaller}
+use Rattle.polylab_engine.proofs.PathLemmas.{in_from, in_to, not_before_itself, after_member}
+use Rattle.std.proofs.lemmas.Simd.{map-map}
+use Rattle.poly_place.specs.Chosen.{PackingValue, chosen_by}
+use Rattle.poly_place.specs.Classes.{AreAlike, IsClassCount}
 
 -- ---- paths in order
-
-in_from : (q : List ℕ) (xs : List (List ℕ)) → IsIn q xs → sets.IsIn q xs
-in_from q [] i = absurd i
-in_from q (x ∷ xs) i = elim i [ inl e ↦ inl e | inr j ↦ inr (in_from q xs j) ]
-
-in_to : (q : List ℕ) (xs : List (List ℕ)) → sets.IsIn q xs → IsIn q xs
-in_to q [] i = absurd i
-in_to q (x ∷ xs) i = elim i [ inl e ↦ inl e | inr j ↦ inr (in_to q xs j) ]
-
-not_before_itself : (q : List ℕ) → PathLess q q → ⊥
-not_before_itself [] l = l
-not_before_itself (x ∷ q) l = elim l [ inl less ↦ omega (arith, less) | inr same ↦ not_before_itself q same.1 ]
-
-after_member : (q t : List ℕ) (ts : List (List ℕ)) → AllAfter q ts → sets.IsIn t ts → PathLess q t
-after_member q t [] l i = absurd i
-after_member q t (u ∷ us) l i = elim i [ inl e ↦ subst (λ (v : List ℕ). PathLess q v) (sym e) l.0 | inr j ↦ after_member q t us l.1 j ]
 
 -- the covers of a problem, as a set of lists that differ
 the_covers : (q : ProblemValue) (paths : List (List ℕ)) → AreCovers q paths → AreTheCovers q paths
@@ -163,18 +151,18 @@ module _ (p : PuzzleValue) (z : IsPuzzle p) (fits : is_small (packing_problem p)
     one_of_each = new_are_one_of_each p z group small (the_covers (smaller p group) small are_small);
   }
 
-  pub counts_distinct : ArePackingPaths p all → CountsDistinct group p (count_up_to_output group p)
+  pub counts_distinct : AreAllPackings p (map (chosen_by p) all) → CountsDistinct group p (count_up_to_output group p)
   unfolding count_up_to_output account_of visits_between
   counts_distinct packings =
       let whole = the_covers (packing_problem p) all are_all in
       let covers = the_covers (smaller p group) small are_small in
       let long = packings_are_stood_for p z group all small whole (different all (visits_rise (packing_problem p)) are_all.once) covers (different small (visits_rise (smaller p group)) are_small.once) in
       record {
-        paths = all;
+        packings = map (chosen_by p) all;
         number = length (new_paths p group small);
-        lines = rw long refl;
-        packings = packings;
-        by_group = new_are_classes p z group all small whole covers;
+        all = packings;
+        lines = rw (length-map all (chosen_by p), long) refl;
+        by_group = subst (λ (qs : List PackingValue). IsClassCount (AreAlike group) qs (length (new_paths p group small))) (sym (map-map (packing_of p) (chosen_by p) all)) (new_are_classes p z group all small whole covers);
       }
 
   pub gives_smaller : GivesSmaller group p (options_up_to_output group p)

@@ -1,5 +1,6 @@
--- How a run ends: what the job makes of the input (`IsOutcomeOf`), or that it is unread (`IsUnread`); what is true then (`IsEnd`), the line that
--- tells it (`IsTold`), and its exit status (`status_of`); and all of this of a program's run (`IsProgramRun`).
+-- How a run ends: what the job makes of the input (`IsOutcomeOf`), or that it is unread (`IsUnread`); what is true then (`IsEnd`), the
+-- line that tells it (`IsTold`), and its exit status (`status_of`); all of this of a program's run (`HasStatus`), and with it what the
+-- output lists (`IsProgramRun`).
 --
 -- Example: a run that ends out of memory tells the line `refused memory`, and its status is 4. That of an input that isn't read is 5.
 -- proofs/JobExamples.antt computes it.
@@ -15,6 +16,7 @@ use Rattle.polylab_engine.specs.declared.engine.RunEnding.{RunEnding}
 use Rattle.polylab_engine.specs.declared.engine.RunEnding.TheVariants.{Written, Refused, OutOfMemory, Pool, Unread, Unwritten}
 use Rattle.polylab_engine.specs.Outcome.{job_outcome, to_write, no_memory, pool_refusal, bad_reader, bad_writer}
 use Rattle.polylab_engine.specs.Listed.{IsListed}
+use Rattle.polylab_engine.specs.Further.{TellsFurther}
 
 -- how a run ends whose job could not be done
 abbrev pub ending_of : JobFault → RunEnding
@@ -60,13 +62,13 @@ status_of (Pool fault) = 4
 status_of Unread = 5
 status_of Unwritten = 5
 
--- what a run of a job leaves of the reader, the writer and the faults, and the status that it answers. At 0 what was written is the
--- outcome of the job on the bytes read, and lists what the job is to tell; at 3 the faults take the line that refuses the input, at 4
+-- what a run of a job leaves of the reader, the writer and the faults, by the status that it answers. At 0 what was written is the
+-- outcome of the job on the bytes read, and tells what is to be told further; at 3 the faults take the line that refuses the input, at 4
 -- and 5 the line of what went wrong; whatever the status, what was written is a beginning of what is to be written
-pub record IsProgramRun (job : Job) (r r' w w' f f' : Stream) (status : ℕ) : Type 0 where
+pub record HasStatus (job : Job) (r r' w w' f f' : Stream) (status : ℕ) : Type 0 where
   pub statuses : Contains (0 ∷ 3 ∷ 4 ∷ 5 ∷ []) status
   pub done : status ≡ 0 → (text : List ℕ) × IsOutcomeOf job r (Ok text) × TakesAll w w' text
-  pub covers : status ≡ 0 → (text : List ℕ) × IfSome r.bytes (λ bytes. IsListed job bytes text) × TakesAll w w' text
+  pub further : status ≡ 0 → (text : List ℕ) × IfSome r.bytes (λ bytes. TellsFurther job bytes text) × Appends w.bytes w'.bytes text
   pub quiet : status ≡ 0 → Stays f f'
   pub refused : status ≡ 3 → (line : List ℕ) × IsOutcomeOf job r (Err line) × Takes f f' line
   pub memory : status ≡ 4 → Takes f f' no_memory ⊎ ((fault : PoolFault) × Takes f f' (pool_refusal fault))
@@ -76,3 +78,8 @@ pub record IsProgramRun (job : Job) (r r' w w' f f' : Stream) (status : ℕ) : T
   pub writer_told : (status ≡ 5 → ⊥) → IsSound w w'
   pub limit : IfSome r.bytes (λ bytes. 134217728 < length bytes → Contains (4 ∷ 5 ∷ []) status)
   pub beginning : IfSome r.bytes (λ bytes. (n : ℕ) × Appends w.bytes w'.bytes (take n (to_write (job_outcome job bytes))))
+
+-- what is true of a run of a job: if its status is 0, what was written lists what the job is to tell of the bytes read; and the rest
+pub record IsProgramRun (job : Job) (r r' w w' f f' : Stream) (status : ℕ) : Type 0 where
+  pub covers : status ≡ 0 → (text : List ℕ) × IfSome r.bytes (λ bytes. IsListed job bytes text) × Appends w.bytes w'.bytes text
+  pub rest : HasStatus job r r' w w' f f' status

@@ -11,7 +11,10 @@ pub mod Joined
 pub mod Added
 pub mod Jobs
 pub mod Outcome
+pub mod Matrices
+pub mod Packing
 pub mod Listed
+pub mod Further
 pub mod Ending
 pub mod Refusals
 pub mod Tables

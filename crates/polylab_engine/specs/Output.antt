@@ -22,7 +22,7 @@ tally_lines steps levels = (codes "steps" ∷ numeral steps ∷ []) ∷ level_wo
 
 -- the lines after the visits: how many visits and steps, and the levels
 abbrev pub total_lines : ℕ → ℕ → List ℕ → List (List (List ℕ))
-total_lines visited steps levels = (codes "visits" ∷ numeral visited ∷ []) ∷ tally_lines steps levels
+total_lines visited steps levels = (codes "visits" ∷ numeral visited ∷ []) ∷ (codes "steps" ∷ numeral steps ∷ []) ∷ level_words levels ∷ []
 
 -- what is written of a report that keeps its visits
 abbrev pub report_text : ReportValue → List ℕ

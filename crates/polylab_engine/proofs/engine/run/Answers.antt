@@ -10,23 +10,7 @@ returns-clause-run g c =
     let w' = g.O.Sink.stream c.work-ending.new.writer in
     let f = g.F.Sink.stream c.args.faults.now in
     let f' = g.F.Sink.stream c.tell_ending.new.faults in
-    let ending = c.work-ending.result in
-    let ends = c.work-ending.ensures.ends in
-    let told = c.tell_ending.ensures in
-    rw c.status.ensures (record {
-      statuses = of.status_known ending;
-      done = of.done_is job r r' w w' f f' ending ends;
-      covers = of.covers_is job r r' w w' f f' ending ends;
-      quiet = of.quiet_is job r r' w w' f f' ending told;
-      refused = of.refused_is job r r' w w' f f' ending ends told;
-      memory = of.memory_is job r r' w w' f f' ending told;
-      unwritten = of.unwritten_is job r r' w w' f f' ending ends;
-      failed = of.failed_is job r r' w w' f f' ending ends told;
-      reader_told = of.reader_is job r r' w w' f f' ending ends;
-      writer_told = of.writer_is job r r' w w' f f' ending ends;
-      limit = of.limit_is job r r' w w' f f' ending ends;
-      beginning = of.beginning_is job r r' w w' f f' ending ends;
-    })
+    rw c.status.ensures (of.run_is job r r' w w' f f' c.work-ending.result c.work-ending.ensures.ends c.tell_ending.ensures)
 
 pub returns-clause-why : goal.returns-clause-why
 returns-clause-why g c =

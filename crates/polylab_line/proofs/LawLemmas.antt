@@ -32,8 +32,8 @@ text_of job r input text given e made o =
 
 pub one_text : (one other : Job) (r r' w w' f f' : Stream) (input before first second : List ℕ) → r.bytes ≡ Some input → w.bytes ≡ Some before → job_outcome one input ≡ Ok first → job_outcome other input ≡ Ok second → (first ≡ second → ⊥) → IsProgramRun one r r' w w' f f' 0 → IsProgramRun other r r' w w' f f' 0 → ⊥
 one_text one other r r' w w' f f' input before first second er ew a b differ p q =
-    let x = p.done refl in
-    let y = q.done refl in
+    let x = p.rest.done refl in
+    let y = q.rest.done refl in
     let s = same_text w.bytes w'.bytes before x.0 y.0 ew x.2.0 y.2.0 in
     let m = text_of one r input first x.0 er a x.1 in
     let n = text_of other r input second y.0 er b y.1 in

@@ -1,1 +1,2 @@
 mod LawLemmas
+mod LineExamples

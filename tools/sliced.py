@@ -1,12 +1,12 @@
 """A search that is done slice by slice, by runs of `polylab resume --steps N`, each from the snapshot that the one before printed. For tools/slices and
-tools/studio. Plain Python, NOT PROVED; it trusts what the program prints of each slice, and looks that slices are of one problem and branch, and have as
-many steps as asked for."""
+tools/studio. Plain Python, NOT PROVED; it trusts what the program prints of each slice, looks that slices are of one problem and branch and have as
+many steps as asked for, and adds them up. At the end `polylab join` has to take the sums as those of a whole run."""
 
 import math
 import time
 
-from frame import stop
-from snapshots import Sums, answer_of, ask, asked, launched, saved, snapshot_of
+from frame import Stop, stop
+from snapshots import Snapshot, Sums, answer_of, ask, asked, at_start, joined, launched, saved, snapshot_of
 
 MOST = 2**64 - 1
 # A slice has at most so many times the steps of the one before: what a short one tells of the speed is mostly the program's start.
@@ -52,6 +52,15 @@ class Sliced:
         self.sliced += took
         self.shortest = min(self.shortest, took)
         return answer.rest is None, took, visits
+
+    def lines(self):
+        """The lines that the program writes of the sums, once the search is at its end: they are handed to it as those of a run that is one part, and it
+        refuses steps that the visits and levels of a run can't have."""
+        counts = "".join(line + "\n" for line in self.sums.lines())
+        try:
+            return joined(self.job, [(Snapshot(at_start(self.snapshot)), counts)], self.launch).splitlines()
+        except Stop as why:
+            return stop(f"the sums are no whole run's: {why}" if "refused join" in str(why) else str(why))
 
     def share(self, estimate):
         """The share that is done if that is found in the time that there is for it: this process's own, as another may hold it up; else None."""

@@ -1,5 +1,5 @@
 """Snapshots and answers of `polylab resume` for the scripts of this folder. Plain Python, NOT PROVED. It trusts the program for what a
-snapshot means: here is only looked at how it is spelled, where its branch begins and ends, and that numbers fit each other."""
+snapshot means, and for the sum of answers: here is only looked at how they are spelled, and where a branch begins and ends."""
 
 import functools
 import hashlib
@@ -190,20 +190,9 @@ class Sums:
         for level, paths in enumerate(answer.levels):
             self.levels[level] += paths
 
-    def fit(self, lo=None, hi=None):
-        """Whether the steps are those that a branch from cut lo to cut hi has with so many visits and paths.
-
-        Algorithm X takes the steps X2, X3, X4, X7, X8 and X5 `past` for each path that is no visit, X2 and X8 for each visit, X5 and X6
-        for each option taken, and X1. So a whole run has 8 steps for each path, less 4 for each visit, less 1. At a cut of N choices
-        4 N of these are still to come, as the paths up to there are begun and not left. And the empty path is met at the start alone."""
-        ahead = 0 if lo is None else 4 * len(lo)
-        behind = 1 if hi is None else 4 * len(hi)
-        return self.levels[:1] == [int(lo is None)] and self.steps == 8 * sum(self.levels) - 4 * self.visits + ahead - behind
-
-    def lines(self, job, options):
-        """The lines of `count`, or those of `cover` without its visits."""
-        first = [f"packings {self.visits}", f"options {options}"] if job == "count" else [f"visits {self.visits}"]
-        return [*first, f"steps {self.steps}", " ".join(["levels", *map(str, self.levels)])]
+    def lines(self):
+        """The lines that an answer has of them."""
+        return [f"visits {self.visits}", f"steps {self.steps}", " ".join(["levels", *map(str, self.levels)])]
 
 
 def snapshot_of(text, what):
@@ -220,6 +209,27 @@ def answer_of(text, what):
         return Answer(text)
     except Spoilt as spoilt:
         return stop(f"{what} is no answer: {spoilt}")
+
+
+def at_start(snapshot):
+    """The text of the snapshot at the start of the run of a snapshot's problem."""
+    head = snapshot.text.index("\nfrom ") + 1
+    return snapshot.text[:head] + "from start\nto end\nstate X1 -\n" + snapshot.text[head:].split("\n", 3)[3]
+
+
+def parts_text(parts):
+    """The text that `polylab join` reads of a whole run, in pieces: the snapshot at its start, and of each part, a snapshot and the lines of its counts,
+    first the lines from `from` on, and then the answer."""
+    for place, (snapshot, counts) in enumerate(parts):
+        if not place:
+            yield at_start(snapshot)
+        yield snapshot.text[snapshot.text.index("\nfrom ") + 1 :]
+        yield counts + "end\n"
+
+
+def joined(job, parts, launch=launched):
+    """What `polylab join` writes of all parts of a run."""
+    return ask(["join", *["--packings"] * (job == "count")], parts_text(parts), launch)
 
 
 def saved(replies):

@@ -187,11 +187,9 @@ class Search:
         """The search came to its end, or found all that is kept."""
         said, sums = "", self.sliced.sums
         is_end = self.now["share"] == 1.0
-        if is_end and not sums.fit():
-            stop(f"the sums are no whole run's: {sums.steps} steps don't fit the visits and levels")
         if not is_end and self.kind != "first":
             said = f"{KEPT} packings are kept, and no more; Count tells how many there are."
-        lines = sums.lines("count", self.sliced.snapshot.options) if is_end else []
+        lines = self.sliced.lines() if is_end else []
         if self.smaller and is_end:
             lines = self.classes(sums)
         self.found.is_whole = is_end and (self.kind != "first" or not self.found.many)

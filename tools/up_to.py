@@ -40,7 +40,7 @@ class Meaning:
         out."""
         first = [f"packings {self.each * sums.visits}"] if self.each else []
         first.append(f"{self.group if self.are_classes else 'visits'} {sums.visits}")
-        return [*first, *sums.lines("count", options)[1:]]
+        return [*first, f"options {options}", *sums.lines()[1:]]
 
 
 def meaning_of(words):

@@ -91,6 +91,22 @@ for words in '--cache 0' '--cache x' '--cache='; do
 done
 echo "ok parts that are counted with a cache"
 
+# A problem with an item that may stay uncovered, whose snapshots are of the second version.
+printf 'piece A 000 100\npiece B 000 010\nmaybe piece C 000 100 010\nbox 2 2 1\n' > "$work/maybe.puzzle"
+tools/parts 2 "$work/maybe" "$work/maybe.puzzle" > "$work/said"
+tools/answer "$work"/maybe/part-*.snapshot
+tools/join "$work/maybe" > "$work/said" || fail "join of a piece that may be left out"
+"$POLYLAB" count < "$work/maybe.puzzle" | diff - "$work/said" || fail "the parts of a piece that may be left out don't add up"
+tools/slices --steps 20 "$work/maybe.puzzle" 2> "$work/told" | diff - "$work/said" || fail "slices of a piece that may be left out"
+echo "ok parts and slices with a piece that may be left out"
+
+# A program that counts a visit too many in each slice is found out at the end.
+# shellcheck disable=SC2016
+printf '#!/bin/sh\n[ "$1" = resume ] || exec "%s" "$@"\n"%s" "$@" | sed "s/^visits 2$/visits 3/"\n' "$POLYLAB" "$POLYLAB" > "$work/miscounts"
+chmod +x "$work/miscounts"
+if POLYLAB=$work/miscounts tools/slices --steps 20 "$work/maybe.puzzle" > "$work/said" 2>&1; then fail "slices takes a visit that there isn't"; fi
+grep -q "the sums are no whole run's: .*: refused join 11 BadNumbers line [0-9]*;" "$work/said" || fail "$(cat "$work/said")"
+
 # A search up to symmetry in parts: by rotations each visit is a class, and stands for 24 packings; by all symmetries visits are neither.
 for group in rotations symmetries; do
     tools/parts --up-to "$group" 6 "$work/$group" "examples/$first.puzzle" > "$work/said"
@@ -194,7 +210,8 @@ spoil && head -n 4 "$work/soma/manifest" > "$work/spoilt/manifest" && refused 'm
 spoil && rm "$part.answer" && refused 'part-0003.answer is missing'
 spoil && head -n 2 "$work/soma/part-0003.answer" > "$part.answer" && refused 'part-0003.answer is no answer: it is cut short'
 spoil && "$POLYLAB" resume --steps 9 < "$work/soma/part-0003.snapshot" > "$part.answer" && refused "part-0003.answer doesn't end with"
-spoil && sed 's/^visits .*/visits 999999/' "$work/soma/part-0003.answer" > "$part.answer" && refused "part-0003.answer isn't of its part"
+spoil && sed 's/^visits .*/visits 999999/' "$work/soma/part-0003.answer" > "$part.answer"
+refused 'part-0003.answer is refused: .*: refused join 11 BadNumbers line [0-9]*$'
 spoil && sed 's/^levels 0 /levels /' "$work/soma/part-0003.answer" > "$part.answer" && refused "part-0003.answer isn't of its part"
 spoil && sed '$d' "$work/soma/part-0003.answer" > "$part.answer" && refused "part-0003.answer doesn't say whose answer it is"
 spoil && echo more >> "$part.answer" && refused "part-0003.answer doesn't end with"
@@ -285,12 +302,13 @@ if unshare --pid --fork true 2> /dev/null; then
     printf '#!/bin/sh\nsleep 1\nexec "%s" "$@"\n' "$POLYLAB" > "$work/late"
     chmod +x "$work/late"
     rm "$work/links/part.answer"
+    named=$POLYLAB
     export POLYLAB="$work/late"
     unshare --pid --fork tools/answer "$work/links/part.snapshot" &
     sleep 0.5
     unshare --pid --fork tools/answer "$work/links/part.snapshot" || fail "answer beside its like"
     wait "$!" || fail "answer, and its like beside it"
-    export POLYLAB="$PWD/crates/polylab/out/polylab"
+    export POLYLAB="$named"
     cmp "$work/soma/part-0001.answer" "$work/links/part.answer" || fail "two calls of answer lose one"
 else
     echo "skipped: two calls with one process id need unshare"

@@ -1,9 +1,9 @@
-"""Tests of tools/snapshots.py: how snapshots and answers are spelled, and which numbers fit each other. NOT PROVED."""
+"""Tests of tools/snapshots.py: how snapshots, answers and the text of parts are spelled. NOT PROVED."""
 
 import unittest
 
 from frame import Stop
-from snapshots import Answer, Snapshot, Spoilt, Sums, checksum, number, problem_text, saved
+from snapshots import Answer, Snapshot, Spoilt, Sums, at_start, checksum, number, parts_text, problem_text, saved
 
 START = "polysnap 1\nproblem 3\nitems a b\noption a\noption b\nfrom start\nto end\nstate X1 -\nend\n"
 BRANCH = START.replace("from start", "from 1 2").replace("to end", "to 3").replace("X1 -", "X5 2 1")
@@ -31,6 +31,22 @@ class Snapshots(unittest.TestCase):
                 START.replace("problem 3", "problem 2"), START.replace("problem 3", "problem 99"), BRANCH.replace("from 1 2", "from 1 x"), START.replace("polysnap 1", "polysnap 2")):
             with self.subTest(text), self.assertRaises(Spoilt):
                 Snapshot(text)
+
+
+class Parts(unittest.TestCase):
+    COUNTS = "visits 4\nsteps 55\nlevels 1 4 4\n"
+
+    def test_a_run_in_one_part(self):
+        self.assertEqual("".join(parts_text([(Snapshot(START), self.COUNTS)])), START + START[START.index("from") :] + ANSWER)
+
+    def test_the_whole_stands_before_the_first_part(self):
+        parts = [(Snapshot(BRANCH), self.COUNTS), (Snapshot(BRANCH.replace("to 3", "to 4")), self.COUNTS)]
+        first = BRANCH[BRANCH.index("from") :]
+        self.assertEqual("".join(parts_text(parts)), START + first + ANSWER + first.replace("to 3", "to 4") + ANSWER)
+
+    def test_a_whole_of_the_second_kind(self):
+        second = lambda text: text.replace("polysnap 1", "polysnap 2").replace("\nend\n", "\nbreaks 0\nend\n")
+        self.assertEqual(at_start(Snapshot(second(BRANCH))), second(START))
 
 
 class Answers(unittest.TestCase):
@@ -65,20 +81,7 @@ class Added(unittest.TestCase):
     def test_stretches_are_added(self):
         sums = self.sums((1, 20, "1 1"), (3, 35, "0 3 4"))
         self.assertEqual((sums.visits, sums.steps, sums.levels), (4, 55, [1, 4, 4]))
-        self.assertEqual(sums.lines("count", 8), ["packings 4", "options 8", "steps 55", "levels 1 4 4"])
-        self.assertEqual(sums.lines("cover", 8), ["visits 4", "steps 55", "levels 1 4 4"])
-
-    def test_the_numbers_of_whole_runs_fit(self):
-        # (two dominoes, and Knuth's small problem: 8 steps for each path, less 4 for each visit, less 1)
-        self.assertTrue(self.sums((4, 8 * 9 - 4 * 4 - 1, "1 4 4")).fit())
-        self.assertTrue(self.sums((1, 43, "1 2 2 1")).fit())
-        self.assertFalse(self.sums((1, 44, "1 2 2 1")).fit())
-        self.assertFalse(self.sums((1, 43, "0 2 3 1")).fit())
-
-    def test_those_of_a_branch_fit(self):
-        # (from a cut of two choices 8 steps are still to come; up to a cut of one 4 are not yet done; the empty path is met at the start alone)
-        self.assertTrue(self.sums((0, 8 * 3 + 8 - 4, "0 1 2")).fit((1, 2), (3,)))
-        self.assertFalse(self.sums((0, 8 * 3 + 8 - 4, "1 0 2")).fit((1, 2), (3,)))
+        self.assertEqual(sums.lines(), ["visits 4", "steps 55", "levels 1 4 4"])
 
 
 class Words(unittest.TestCase):

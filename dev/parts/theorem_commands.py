@@ -22,8 +22,12 @@ READERS = {
 }
 REST = "the rest of the promise: the same bytes whoever searches, refusals, faults"
 ANY_NUMBERS = (
-    "In part A the numbers of steps and levels at the end of the output may be any. The field `done` of `IsProgramRun` says which they are:"
+    "In part A the numbers of steps and levels at the end of the output may be any. The field `done` of `HasStatus` says which they are:"
     " the last part explains it."
+)
+ANY_OPTIONS = (
+    "In part A the numbers of options, steps and levels at the end of the output may be any. The fields `further` and `done` of `HasStatus` say"
+    " which they are: the last part explains it."
 )
 UP_TO = "With `--up-to GROUP`, two packings are alike if a rotation (or any symmetry) of the region carries one onto the other."
 TRUSTED = (
@@ -69,7 +73,11 @@ COMMANDS = {
             "With `--first N` it prints the first N of these lines; if there are fewer, it prints all of them.",
             "With `--count` it prints how many there are.",
         ),
-        (ANY_NUMBERS,),
+        (
+            ANY_NUMBERS,
+            "[RunExamples.antt](../../crates/polylab_engine/proofs/RunExamples.antt) has one run, computed by the prover from the bytes that it reads"
+            " to those that it writes.",
+        ),
     ),
     "solve": Command(
         "puzzle",
@@ -88,6 +96,7 @@ COMMANDS = {
         (
             "Two packings are different if they lay different pieces on the same cells. Copies of one symbol are drawn alike, so two different"
             " packings may look the same.",
+            "In part A the packings may be in any order. The field `further` of `HasStatus` says in which: the last part explains it.",
         ),
     ),
     "count": Command(
@@ -104,7 +113,7 @@ COMMANDS = {
             " another.",
             "With `--up-to GROUP` it prints the number of packings and the number of classes, and searches a smaller problem for both.",
         ),
-        (ANY_NUMBERS,),
+        (ANY_OPTIONS,),
     ),
     "options": Command(
         "puzzle",
@@ -137,7 +146,8 @@ COMMANDS = {
         (
             "`polylab join` reads the snapshot of a search as a whole, and of each of its parts the rest of its snapshot and what `resume` printed"
             " of it. It prints the sum of these answers.",
-            "It checks that the parts join: each is of the same problem and on its run, and begins where the one before it ends.",
+            "It checks that the parts join: each is of the same problem and on its run, and begins where the one before it ends. The steps of each"
+            " answer have to fit its visits and levels.",
             "If each answer is what `resume` prints of its part, the sum is what `cover --count` prints of the whole run, or `count` of the puzzle.",
         ),
     ),

@@ -133,7 +133,7 @@ class Page:
             " the call, and `.new` after it.",
             "",
             f"All parts but the last are about one field of `{RUN[2]}`, `{LISTED}`: what is written if the status is 0. In it `r` and `r'` are the"
-            " reader before and after the call, `w` and `w'` the writer, `f` and `f'` the standard error. The last part is about the other fields. A"
+            " reader before and after the call, `w` and `w'` the writer, `f` and `f'` the standard error. The last part is about the other field, `rest`. A"
             " contract sees a number of the code as a natural number, and a row of bytes as a list of these.",
             "",
         ]

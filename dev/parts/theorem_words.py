@@ -126,6 +126,7 @@ LIBRARY = {
     "slice_cmp": "how two lists compare: by the first difference; a beginning is less",
     "ordering_then": "the first comparison, or the second if that is Equal",
     "IsStrictlySortedBy": "each element is Less, by this comparison, than all later ones",
+    "IsDistinct": "`IsDistinct test xs`: no element passes the test with a later one",
     "int_eq": "test whether two integers are equal",
     "beq": "test whether two Bools are equal",
     "option_and_then": "what the function gives of the value, if there is one",

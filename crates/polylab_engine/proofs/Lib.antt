@@ -14,6 +14,7 @@ mod PathLemmas
 mod MatrixLemmas
 mod PackingLemmas
 mod ShownLemmas
+mod CoverListLemmas
 mod ListedLemmas
 mod EndingLemmas
 mod DebugLemmas

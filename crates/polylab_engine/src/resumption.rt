@@ -12,7 +12,7 @@ use crate::cover::report_text;
 use crate::report::Report;
 use crate::search::count_stretch;
 use crate::searcher::{Searcher, last_state};
-use crate::stretch::search_on;
+use crate::stretch::{Bounds, search_on};
 use crate::tables::TableKind;
 use std::alloc::{AllocError, Global};
 use x_snapshot::{Snapshot, write_snapshot};
@@ -134,7 +134,13 @@ fn stretch_of(
 {
     snapshot.is_sound();
     let searcher = searcher_at(alloc, table, snapshot)?;
-    let (report, stop) = search_on(alloc, searcher, end_choices(snapshot), most, None, lists)?;
+    let bounds = Bounds {
+        end: end_choices(snapshot),
+        most,
+        first: None,
+        keeps: lists,
+    };
+    let (report, stop) = search_on(alloc, searcher, bounds)?;
     Ok((report, stop))
 }
 

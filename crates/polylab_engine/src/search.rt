@@ -12,7 +12,7 @@ ghost use Rattle.shared_words.specs.Answers.{Returns};
 use crate::fault::JobFault;
 use crate::report::Report;
 use crate::searcher::{Searcher, first_state, last_state};
-use crate::stretch::search_on;
+use crate::stretch::{Bounds, search_on};
 use crate::tables::{TableKind, table_for};
 use crate::visits::Visits;
 use crate::workers::Team;
@@ -36,7 +36,13 @@ pub fn search_alone<V: Visits>(
     ensures { Returns result (whole_report keeps problem.now) }
 {
     let searcher = Searcher::new(alloc, problem, table)?;
-    let (report, _) = search_on::<V>(alloc, searcher, &[], None, None, keeps)?;
+    let bounds = Bounds {
+        end: &[],
+        most: None,
+        first: None,
+        keeps,
+    };
+    let (report, _) = search_on::<V>(alloc, searcher, bounds)?;
     Ok(report)
 }
 
@@ -109,7 +115,13 @@ pub fn search_first<V: Visits>(
     ensures { IfOk result (IsFirstReport first problem.now) }
 {
     let searcher = Searcher::new(alloc, problem, table)?;
-    let (report, _) = search_on::<V>(alloc, searcher, &[], None, Some(first), true)?;
+    let bounds = Bounds {
+        end: &[],
+        most: None,
+        first: Some(first),
+        keeps: true,
+    };
+    let (report, _) = search_on::<V>(alloc, searcher, bounds)?;
     Ok(report)
 }
 

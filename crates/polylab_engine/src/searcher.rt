@@ -10,7 +10,7 @@ ghost use Rattle.x_steps.specs.Resume.{position};
 ghost use Rattle.polylab_engine.specs.declared.tables.TableKind.{TableKind};
 ghost use Rattle.polylab_engine.specs.Searcher.{machine_value, stands, kind_of, HasTable};
 
-use crate::tables::{TableKind, has_few_words};
+use crate::tables::TableKind;
 use cover_bits::{BitTable, has_room};
 use cover_links::LinkTable;
 use cover_problem::{Problem, Table};
@@ -108,7 +108,7 @@ fn by_links<'p>(alloc: Global, bits: &Machine<'p, BitTable>) -> Option<AnyMachin
     }
 }
 
-/// By bits where they have few words and there is memory for them, or else by the table that a short search prefers.
+/// By the table that a short search prefers.
 fn first_preferred<'p>(
     alloc: Global,
     problem: &'p Problem,
@@ -117,11 +117,6 @@ fn first_preferred<'p>(
     requires { IsState problem.now state.now }
     ensures { IfOk result (λ m. machine_value m ≡ position problem.now (state_value state.now)) }
 {
-    if has_few_words(problem) {
-        if let Ok(bits) = machine_at(alloc, problem, state) {
-            return Ok(AnyMachine::Bits(bits));
-        }
-    }
     let mut links = machine_at(alloc, problem, state)?;
     match by_bits(alloc, &mut links) {
         Some(bits) => Ok(bits),
@@ -199,6 +194,16 @@ impl<'p> Searcher<'p> {
         };
         if let Some(machine) = better {
             self.machine = machine;
+        }
+    }
+
+    /// The table that it goes on by.
+    pub fn kind(&self) -> TableKind
+        ensures { result ≡ kind_of self.now.machine }
+    {
+        match &self.machine {
+            AnyMachine::Links(_) => TableKind::Links,
+            AnyMachine::Bits(_) => TableKind::Bits,
         }
     }
 

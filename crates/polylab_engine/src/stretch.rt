@@ -13,13 +13,37 @@ use crate::report::Report;
 use crate::searcher::{AnyMachine, Searcher};
 use crate::tally::RunTally;
 use crate::visits::Visits;
-use cover_problem::Table;
+use cover_problem::{Lists, Problem, Table};
 use std::alloc::{AllocError, Global};
 use x_steps::{Event, Machine, State, Walk, no_counts};
 
-/// How many steps a search takes before it is asked again which table it prefers: the first thousands of nodes, with some 8 steps each,
-/// can be of another kind than what follows.
-const BEFORE_ASKING: u32 = 128_000;
+/// How many steps a search takes before it is asked again which table it prefers: its first way down is of another kind than what follows.
+const BEFORE_ASKING: u32 = 8_000;
+
+/// How many steps of one worker show which table workers prefer who share the search.
+const SHOWING: u64 = 200_000;
+
+/// Where a stretch stops, and whether it keeps its visits.
+#[derive(Clone, Copy)]
+pub struct Bounds<'a> {
+    /// The choices of the cut that ends the branch; none if it ends with the run.
+    pub end: &'a [u32],
+    /// How many steps are asked for, if a number is.
+    pub most: Option<u64>,
+    /// The number of the last visit that is asked for, if one is.
+    pub first: Option<u64>,
+    /// Whether the visits are kept.
+    pub keeps: bool,
+}
+
+/// How many steps a search takes before it is asked the next time, where it took so many before the last time. What it costs to ask stays
+/// a small part of what is searched.
+fn before_next(steps: u32) -> u32
+    requires { 0 < steps }
+    ensures { 0 < result }
+{
+    steps.saturating_mul(4)
+}
 
 /// How many steps the next walk may take: as many as there is room for, and no more than are left; none where all visits are there.
 fn pace_of(room: u32, left: Option<u64>, is_full: bool) -> u32
@@ -97,75 +121,85 @@ fn walk_to_stop<V: Visits>(
     alloc: Global,
     searcher: &mut Searcher<'_>,
     tally: &mut RunTally<V>,
-    end: &[u32],
-    most: Option<u64>,
-    first: Option<u64>,
-    keeps: bool,
+    bounds: Bounds<'_>,
 ) -> Result<(), AllocError>
-    requires end { Fits (stands searcher.old).problem (end_at end.now) }
-    requires not_past { ComesBefore (stands searcher.old).problem (end_at end.now) (stands searcher.old).state → ⊥ }
+    requires end { Fits (stands searcher.old).problem (end_at bounds.end.now) }
+    requires not_past { ComesBefore (stands searcher.old).problem (end_at bounds.end.now) (stands searcher.old).state → ⊥ }
     requires empty { tally.old ≡ empty_account (length (stands searcher.old).problem.names) }
     ensures stop { OnOk result
-        (StopsAt first most (stands searcher.old) end.now tally.new.visited (stands searcher.new).state) }
-    ensures first { OnOk result (ForSome first (λ n. tally.new.visited ≤ n)) }
-    ensures soon { OnOk result (ForSome first (λ n. HasFewerBefore (stands searcher.old) tally.new.steps n)) }
+        (StopsAt bounds.entry.first bounds.entry.most (stands searcher.old) bounds.entry.end.now tally.new.visited (stands searcher.new).state) }
+    ensures first { OnOk result (ForSome bounds.entry.first (λ n. tally.new.visited ≤ n)) }
+    ensures soon { OnOk result (ForSome bounds.entry.first (λ n. HasFewerBefore (stands searcher.old) tally.new.steps n)) }
     ensures fits { OnOk result (Fits (stands searcher.old).problem (stands searcher.new).state) }
-    ensures account { OnOk result (tally.new ≡ account_from keeps (stands searcher.old) (stands searcher.new).state) }
+    ensures account { OnOk result (tally.new ≡ account_from bounds.entry.keeps (stands searcher.old) (stands searcher.new).state) }
 {
     searcher.stands_in_run();
     let items = searcher.problem().items();
     let mut counts = no_counts(alloc, items)?;
-    // The machine counts in 32 bits, which so many steps can't pass; then the counts go to totals without a bound. The first time
-    // that is soon, since then the table is asked for again.
-    let mut room = BEFORE_ASKING;
-    let mut left = most;
+    // The machine counts in 32 bits, which so many steps can't pass. Then the counts go to totals without a bound, and the table is asked
+    // for again.
+    let mut paced = BEFORE_ASKING;
+    let mut room = paced;
+    let mut left = bounds.most;
     loop {
         let walk = walk_on(
             searcher,
-            pace_of(room, left, tally.is_full(first)),
-            end,
+            pace_of(room, left, tally.is_full(bounds.first)),
+            bounds.end,
             &mut counts,
         );
         if walk.steps == 0 {
             tally.add_counts(&counts)?;
             return Ok(());
         }
-        tally.note(keeps, walk, &searcher.state().path)?;
+        tally.note(bounds.keeps, walk, &searcher.state().path)?;
         left = left_after(left, walk.steps);
         room -= walk.steps;
         if room == 0 {
             tally.add_counts(&counts)?;
             counts = no_counts(alloc, items)?;
-            room = u32::MAX;
+            paced = before_next(paced);
+            room = paced;
             searcher.ask_again(alloc);
         }
     }
 }
 
-/// Takes a search on, up to the end of a branch, which is the cut of these choices, or Done where there are none; or as many steps
-/// as are asked for, or up to the visit of the number `first`, where these come first. Answers the report of the stretch, which keeps
-/// the visits or not, and the state where it stops. Memory doesn't grow with the stretch, but for visits that are kept.
+/// Takes a search on, up to the end of a branch, which is the cut of the choices `end`, or Done where there are none; or `most` steps, or
+/// up to the visit of the number `first`, if these come first. Answers the report of the stretch, which keeps the visits or not, and the
+/// state where it stops. Memory doesn't grow with the stretch, but for visits that are kept.
 pub fn search_on<V: Visits>(
     alloc: Global,
     searcher: Searcher<'_>,
-    end: &[u32],
-    most: Option<u64>,
-    first: Option<u64>,
-    keeps: bool,
+    bounds: Bounds<'_>,
 ) -> Result<(Report<V>, State), AllocError>
-    requires end { Fits (stands searcher).problem (end_at end.now) }
-    requires not_past { ComesBefore (stands searcher).problem (end_at end.now) (stands searcher).state → ⊥ }
+    requires end { Fits (stands searcher).problem (end_at bounds.end.now) }
+    requires not_past { ComesBefore (stands searcher).problem (end_at bounds.end.now) (stands searcher).state → ⊥ }
     ensures stop { IfOk result (λ r.
-        StopsAt first most (stands searcher.entry) end.now r.0.visited (state_value r.1)) }
-    ensures first { IfOk result (λ r. ForSome first (λ n. r.0.visited ≤ n)) }
-    ensures soon { IfOk result (λ r. ForSome first (λ n. HasFewerBefore (stands searcher.entry) r.0.steps n)) }
+        StopsAt bounds.entry.first bounds.entry.most (stands searcher.entry) bounds.entry.end.now r.0.visited (state_value r.1)) }
+    ensures first { IfOk result (λ r. ForSome bounds.entry.first (λ n. r.0.visited ≤ n)) }
+    ensures soon { IfOk result (λ r. ForSome bounds.entry.first (λ n. HasFewerBefore (stands searcher.entry) r.0.steps n)) }
     ensures fits { IfOk result (λ r. Fits (stands searcher.entry).problem (state_value r.1)) }
-    ensures report { IfOk result (λ r. r.0 ≡ report_from keeps (stands searcher.entry) (state_value r.1)) }
+    ensures report { IfOk result (λ r. r.0 ≡ report_from bounds.entry.keeps (stands searcher.entry) (state_value r.1)) }
 {
     searcher.stands_in_run();
     let mut searcher = searcher;
     let mut tally = RunTally::<V>::new(alloc, searcher.problem().items())?;
-    walk_to_stop(alloc, &mut searcher, &mut tally, end, most, first, keeps)?;
+    walk_to_stop(alloc, &mut searcher, &mut tally, bounds)?;
     let stop = searcher.state().copy()?;
     Ok((tally.report(alloc)?, stop))
+}
+
+/// A search after the first steps of a problem's run, by the table that it goes on by there.
+pub fn begun(alloc: Global, problem: &Problem) -> Result<Searcher<'_>, AllocError> {
+    let mut searcher = Searcher::new(alloc, problem, None)?;
+    let mut tally = RunTally::<Lists>::new(alloc, problem.items())?;
+    let bounds = Bounds {
+        end: &[],
+        most: Some(SHOWING),
+        first: None,
+        keeps: false,
+    };
+    walk_to_stop(alloc, &mut searcher, &mut tally, bounds)?;
+    Ok(searcher)
 }

@@ -3,6 +3,7 @@ ghost use Rattle.std.specs.Prelude.{None, Some};
 ghost use Rattle.polylab_engine.specs.Tables.{IsTableFor};
 
 use crate::searcher::{first_state, machine_at};
+use crate::stretch::begun;
 use cover_bits::has_room;
 use cover_links::LinkTable;
 use cover_problem::Problem;
@@ -18,15 +19,6 @@ pub enum TableKind {
     Bits,
 }
 
-/// Up to this many items times words of 64 options no short search is made: going through all of them costs less than asking.
-const FEW_WORDS: u64 = 1_500;
-
-/// Whether bit sets are taken unasked, since there are few words to go through.
-pub fn has_few_words(problem: &Problem) -> bool {
-    let words = u64::from(problem.options()) / 64 + 1;
-    u64::from(problem.items()) * words <= FEW_WORDS
-}
-
 /// Whether a short search from the start of a problem's run prefers bit sets; not where there is no memory for it.
 fn start_prefers_bits(alloc: Global, problem: &Problem) -> bool {
     match machine_at::<LinkTable>(alloc, problem, &first_state(alloc)) {
@@ -38,13 +30,22 @@ fn start_prefers_bits(alloc: Global, problem: &Problem) -> bool {
     }
 }
 
+/// Whether one worker goes on by bit sets after the first steps of a problem's run; not where there is no memory to tell.
+fn goes_on_by_bits(alloc: Global, problem: &Problem) -> bool {
+    match begun(alloc, problem) {
+        Ok(searcher) => searcher.kind() == TableKind::Bits,
+        Err(_) => false,
+    }
+}
+
 /// The table that so many workers search a problem by where none is asked for.
 fn preferred(alloc: Global, problem: &Problem, workers: u32) -> TableKind
     ensures { IsTableFor problem.now workers None (Some result) }
 {
-    // Where bits have no room there is nothing to ask.
+    // Where bits have no room there is nothing to ask. The first way down, which is all that a short search sees of a large problem, mostly
+    // prefers links; workers, who aren't asked again, have one go ahead.
     if has_room(problem, workers)
-        && (has_few_words(problem) || start_prefers_bits(alloc, problem))
+        && (start_prefers_bits(alloc, problem) || workers > 1 && goes_on_by_bits(alloc, problem))
     {
         TableKind::Bits
     } else {
@@ -63,8 +64,7 @@ fn bits_in_room(problem: &Problem, workers: u32) -> Option<TableKind>
     }
 }
 
-/// The table of a search by so many workers: the one that is asked for, or else bit sets where they have few words, or the one that a
-/// short search prefers. None where bit sets are asked for and would take more memory than they may.
+/// The table of a search by so many workers: the one that is asked for, or else the one that is preferred. None where bit sets are asked for and would take more memory than they may.
 pub fn table_for(
     alloc: Global,
     problem: &Problem,

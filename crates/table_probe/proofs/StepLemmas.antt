@@ -5,7 +5,7 @@ use Rattle.cover_problem.specs.Table.{IsCoveredList}
 use Rattle.cover_problem.proofs.CoveredLemmas.{covered_item}
 use Rattle.cover_problem.proofs.MemberLemmas.{has_at}
 use Rattle.cover_problem.proofs.RemainingLemmas.{remaining_in}
-use Rattle.x_steps.specs.declared.state.Label.TheVariants.{X6}
+use Rattle.x_steps.specs.declared.state.Label.TheVariants.{X5, X6}
 use Rattle.x_steps.specs.declared.state.Cursor.TheVariants.{At}
 use Rattle.x_steps.specs.StateValue.{StateValue}
 use Rattle.x_steps.specs.Steps.{Fits, FitsAt}
@@ -17,6 +17,12 @@ use Rattle.table_probe.specs.Words.{ServesItem}
 pub left_option : (p : ProblemValue) (s : StateValue) (o : ℕ) → Fits p s → s.label ≡ X6 → s.cursor ≡ At o → (0 < o) × (o ≤ length p.options)
 left_option p s o f l k =
     let here : FitsAt p X6 s.path (At o) = subst (λ c. FitsAt p X6 s.path c) k (subst (λ t. FitsAt p t s.path s.cursor) l f) in
+    let r = remaining_in p _ _ o here.1.left in (r.1, r.2)
+
+-- the option that is tried at X5 is one of the problem
+pub tried_option : (p : ProblemValue) (s : StateValue) (o : ℕ) → Fits p s → s.label ≡ X5 → s.cursor ≡ At o → (0 < o) × (o ≤ length p.options)
+tried_option p s o f l k =
+    let here : FitsAt p X5 s.path (At o) = subst (λ c. FitsAt p X5 s.path c) k (subst (λ t. FitsAt p t s.path s.cursor) l f) in
     let r = remaining_in p _ _ o here.1.left in (r.1, r.2)
 
 -- a table serves the items that are covered

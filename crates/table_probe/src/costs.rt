@@ -2,39 +2,47 @@
 ghost use Rattle.std.specs.Prelude.{◌≡◌, ◌<◌, ◌*◌, ◌+◌, ◌↔◌, IsTrue};
 ghost use Rattle.table_probe.specs.Costs.{links_cost, bits_cost};
 
-/// What dancing links pay for each item that is looked at, in 30ths of what bit sets do. specs/Costs.antt has the same numbers.
-const LINKS_LOOK: u128 = 9;
+/// What dancing links pay for each item that is looked at, in quarters of a nanosecond. specs/Costs.antt has the same numbers.
+const LINKS_LOOK: u128 = 10;
 /// What they pay for each node that is hidden.
-const LINKS_HIDE: u128 = 24;
-/// What bit sets pay for each item that is looked at, beside its words.
-const BITS_LOOK: u128 = 30;
+const LINKS_HIDE: u128 = 16;
+/// What bit sets pay more than links each time an item is chosen.
+const BITS_CHOOSE: u128 = 50;
 /// What they pay for each word of an item that is looked at.
-const BITS_WORD: u128 = 1;
-/// What they pay for each word that is left as an item is covered.
-const BITS_COVER: u128 = 6;
+const BITS_LOOK: u128 = 3;
+/// What they pay for each word of a set from which an option's items are taken out.
+const BITS_WRITE: u128 = 5;
+/// What they pay for each word of the row of active items, through which they go for each choice.
+const BITS_ROW: u128 = 18;
 
 /// What a stretch of a search looks at and goes through. A count that would pass 2^64 - 1 stays there.
 #[derive(Clone, Copy, Debug, PartialEq, Eq)]
 pub struct Costs {
-    /// How many active items were looked at as one was chosen.
+    /// How many times an item was chosen.
+    pub chosen: u64,
+    /// How many active items were looked at for it.
     pub looked: u64,
     /// How many nodes links hid: of each option that went as an item was covered, its other items.
     pub hidden: u64,
     /// For each item that was looked at, the words of 64 options that had an option left.
     pub looked_words: u64,
-    /// The same for each item that was covered.
-    pub covered_words: u64,
+    /// For each option that was tried, and each six of its items, the words that had an option left as its item was chosen.
+    pub written_words: u64,
+    /// For each choice the words of the row of active items.
+    pub row_words: u64,
 }
 
 /// What nothing costs.
 pub fn no_costs() -> Costs
-    ensures { result ≡ record { looked = 0; hidden = 0; looked_words = 0; covered_words = 0 } }
+    ensures { result ≡ record { chosen = 0; looked = 0; hidden = 0; looked_words = 0; written_words = 0; row_words = 0 } }
 {
     Costs {
+        chosen: 0,
         looked: 0,
         hidden: 0,
         looked_words: 0,
-        covered_words: 0,
+        written_words: 0,
+        row_words: 0,
     }
 }
 
@@ -50,9 +58,10 @@ impl Costs {
     pub fn bits(&self) -> u128
         ensures { result ≡ bits_cost self.now }
     {
-        BITS_LOOK * u128::from(self.looked)
-            + BITS_WORD * u128::from(self.looked_words)
-            + BITS_COVER * u128::from(self.covered_words)
+        BITS_CHOOSE * u128::from(self.chosen)
+            + BITS_LOOK * u128::from(self.looked_words)
+            + BITS_WRITE * u128::from(self.written_words)
+            + BITS_ROW * u128::from(self.row_words)
     }
 
     /// Whether bit sets pay less.

@@ -8,11 +8,11 @@ use cover_problem::Table;
 use std::alloc::{AllocError, Global};
 use x_steps::{Cursor, Label, Machine};
 
-/// The most steps of a probe: 1,000 nodes have some 8 steps each.
-const MOST_STEPS: u32 = 8_000;
+/// The most steps of a probe: 128 nodes have some 8 steps each.
+const MOST_STEPS: u32 = 1_024;
 
-/// Where links have paid so much the probe ends: three for each item looked at and eight for each node hidden make 4,000,000.
-const MOST_COST: u128 = 12_000_000;
+/// Where links have paid so much the probe ends: some milliseconds.
+const MOST_COST: u128 = 8_000_000;
 
 /// How many items the machine's next step uncovers.
 fn uncovered_next<T: Table>(machine: &Machine<'_, T>) -> usize {
@@ -50,23 +50,32 @@ fn uncover_from<T: Table>(words: &mut Words, machine: &Machine<'_, T>, from: usi
     }
 }
 
-/// Looks at the active items where one is chosen next, as the step to come does.
-fn look_ahead<T: Table>(words: &mut Words, machine: &Machine<'_, T>)
+/// Counts what the step to come chooses and tries.
+fn count_next<T: Table>(words: &mut Words, machine: &Machine<'_, T>) -> Result<(), AllocError>
     requires { HasWords machine.now.problem words.old }
     ensures { HasWords machine.now.problem words.new }
 {
-    if let Label::X4 = machine.state().label {
-        words.look(machine.table());
+    match (machine.state().label, machine.state().cursor) {
+        (Label::X4, _) => words.choose(machine.table()),
+        (Label::X5, Cursor::At(option)) => {
+            words.write(machine.problem(), option);
+            Ok(())
+        }
+        (Label::X7, _) => {
+            words.leave();
+            Ok(())
+        }
+        _ => Ok(()),
     }
 }
 
 /// Takes a step, and counts what it costs; no more at Done.
-fn step_on<T: Table>(words: &mut Words, machine: &mut Machine<'_, T>) -> bool
+fn step_on<T: Table>(words: &mut Words, machine: &mut Machine<'_, T>) -> Result<bool, AllocError>
     requires { HasWords machine.old.problem words.old }
     ensures words { HasWords machine.old.problem words.new }
     ensures problem { machine.new.problem ≡ machine.old.problem }
 {
-    look_ahead(words, machine);
+    count_next(words, machine)?;
     let kept = machine
         .covered()
         .len()
@@ -74,28 +83,29 @@ fn step_on<T: Table>(words: &mut Words, machine: &mut Machine<'_, T>) -> bool
     // A list is as it was when its item was covered only while the item is covered.
     uncover_from(words, machine, kept);
     if machine.step().is_err() {
-        return false;
+        return Ok(false);
     }
     cover_from(words, machine, kept);
-    true
+    Ok(true)
 }
 
-/// Takes steps and counts what they cost, 8,000 of them, or fewer where links have paid enough before or the search ends.
-fn walk_on<T: Table>(words: &mut Words, machine: &mut Machine<'_, T>)
+/// Takes steps and counts what they cost, 1,024 of them, or fewer where links have paid enough before or the search ends.
+fn walk_on<T: Table>(words: &mut Words, machine: &mut Machine<'_, T>) -> Result<(), AllocError>
     requires { HasWords machine.old.problem words.old }
     ensures { machine.new.problem ≡ machine.old.problem }
 {
     for _ in 0..MOST_STEPS {
         if words.costs.links() >= MOST_COST {
-            return;
+            break;
         }
-        if !step_on(words, machine) {
-            return;
+        if !step_on(words, machine)? {
+            break;
         }
     }
+    Ok(())
 }
 
-/// What the next steps of a search cost, 8,000 of them, or fewer where links have paid enough before or the search ends. The machine
+/// What the next steps of a search cost, 1,024 of them, or fewer where links have paid enough before or the search ends. The machine
 /// stands where it stood.
 pub fn costs_ahead<T: Table>(
     alloc: Global,
@@ -108,8 +118,9 @@ pub fn costs_ahead<T: Table>(
     // What is covered already is not paid for.
     cover_from(&mut words, machine, 0);
     words.costs = no_costs();
-    walk_on(&mut words, machine);
+    let walked = walk_on(&mut words, machine);
     machine.move_to(&start);
+    walked?;
     Ok(words.costs)
 }
 

@@ -10,11 +10,18 @@ use std::alloc::{AllocError, Global};
 /// How many options share a word of a set. specs/Words.antt has the same number.
 const WORD: u32 = 64;
 
+/// How many items of an option one pass over a set takes out.
+const PASS: u64 = 6;
+
 /// How many options are left in each word, in how many words one is, and what was paid so far.
 #[derive(Debug, Drop)]
 pub struct Words {
     left: Vec<u32>,
     words: u64,
+    /// For each item that was chosen, and isn't uncovered yet, in how many words an option was left then.
+    nodes: Vec<u64>,
+    /// How many words a row of the active items takes.
+    row: u64,
     pub costs: Costs,
 }
 
@@ -47,6 +54,8 @@ impl Words {
         Ok(Words {
             left,
             words: u64::from(options).div_ceil(u64::from(WORD)),
+            nodes: Vec::new(alloc),
+            row: u64::from(problem.primary()).div_ceil(u64::from(WORD)),
             costs: no_costs(),
         })
     }
@@ -89,7 +98,6 @@ impl Words {
         requires serves { ServesItem problem.now (T.problem_value table.now) item }
         ensures { HasWords problem.now self.new }
     {
-        self.costs.covered_words = self.costs.covered_words.saturating_add(self.words);
         let mut next = table.first_option(item);
         while let Some(option) = next {
             self.lose(problem, option);
@@ -110,23 +118,61 @@ impl Words {
         }
     }
 
-    /// An item is chosen: active items are looked at, up to the first with no option.
-    pub fn look<T: Table>(&mut self, table: &T)
+    /// An item is chosen, for which active items are looked at.
+    pub fn choose<T: Table>(&mut self, table: &T) -> Result<(), AllocError>
         requires { IsProblem (T.problem_value table.now) }
         ensures { self.new.left ≡ self.old.left }
     {
-        let mut looked = 0u64;
-        let mut next = table.first_item();
-        while let Some(item) = next {
-            looked = looked.saturating_add(1);
-            // No list is shorter, so choosing stops here.
-            if table.len(item) == 0 {
-                break;
-            }
-            next = table.next_item(item);
-        }
+        let looked = looked_at(table);
+        self.costs.chosen = self.costs.chosen.saturating_add(1);
         self.costs.looked = self.costs.looked.saturating_add(looked);
         let words = looked.saturating_mul(self.words);
         self.costs.looked_words = self.costs.looked_words.saturating_add(words);
+        self.costs.row_words = self.costs.row_words.saturating_add(self.row);
+        self.nodes.push(self.words)?;
+        Ok(())
     }
+
+    /// In how many words an option was left as the last item was chosen; now, if it was chosen before the short search.
+    fn words_at_node(&self) -> u64 {
+        match self.nodes.last() {
+            Some(words) => *words,
+            None => self.words,
+        }
+    }
+
+    /// An option is tried: bit sets take its items out of the set of its node.
+    pub fn write(&mut self, problem: &Problem, option: u32)
+        requires some { 0 < option }
+        requires within { option ≤ length problem.now.options }
+        ensures { self.new.left ≡ self.old.left }
+    {
+        let passes = (problem.option(option).len() as u64).div_ceil(PASS);
+        let words = self.words_at_node().saturating_mul(passes);
+        self.costs.written_words = self.costs.written_words.saturating_add(words);
+    }
+
+    /// All options of the item that was chosen last were tried.
+    pub fn leave(&mut self)
+        ensures { self.new.left ≡ self.old.left }
+    {
+        self.nodes.pop();
+    }
+}
+
+/// How many active items are looked at to choose one: up to the first with no option.
+fn looked_at<T: Table>(table: &T) -> u64
+    requires { IsProblem (T.problem_value table.now) }
+{
+    let mut looked = 0u64;
+    let mut next = table.first_item();
+    while let Some(item) = next {
+        looked = looked.saturating_add(1);
+        // No list is shorter, so choosing stops here.
+        if table.len(item) == 0 {
+            break;
+        }
+        next = table.next_item(item);
+    }
+    looked
 }

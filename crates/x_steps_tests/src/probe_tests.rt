@@ -25,28 +25,33 @@ static ROWS: [Row; 4] = [
     //          Option 4 of a, d: 6, one; f: 3, one.
     //   4      b1 c1 e1 g1, b; b: 5, one. Option 5, g: none, one.
     //   4 5    c1 e1, c; c: 1, one. Option 1, e: none, no word.
-    // So 7 + 4 + 1 + 4 + 2 looks, all but that at e0 with a word; of the options 2 4 6 5, 3 1, 6 3, 5, 1 the other items
-    // 2 + 2 + 2 + 1, 2 + 1, 2 + 2, 1, 1; and words for a d g, b c, d f, b g, c.
+    // So five items are chosen, after 7 + 4 + 1 + 4 + 2 looks, all but that at e0 with a word; of the options 2 4 6 5, 3 1, 6 3, 5, 1
+    // the other items are 2 + 2 + 2 + 1, 2 + 1, 2 + 2, 1, 1; and with a word left as a, a, b, b, c was chosen the options 2, 4, 3, 5, 1
+    // are tried. The row of the seven primary items has a word.
     Row(
         SMALL,
         0,
         Costs {
+            chosen: 5,
             looked: 18,
             hidden: 16,
             looked_words: 17,
-            covered_words: 10,
+            written_words: 5,
+            row_words: 5,
         },
-        false,
+        true,
     ),
-    // From X5 at option 4 on: a is covered already. Only what stands above from there on is paid.
+    // From X5 at option 4 on: a is chosen and covered already. Only what stands above from there on is paid.
     Row(
         SMALL,
         20,
         Costs {
+            chosen: 2,
             looked: 6,
             hidden: 6,
             looked_words: 6,
-            covered_words: 5,
+            written_words: 3,
+            row_words: 2,
         },
         false,
     ),
@@ -55,22 +60,27 @@ static ROWS: [Row; 4] = [
         SMALL,
         43,
         Costs {
+            chosen: 0,
             looked: 0,
             hidden: 0,
             looked_words: 0,
-            covered_words: 0,
+            written_words: 0,
+            row_words: 0,
         },
         false,
     ),
-    // Eight looks, and ten options with seven other items each: 30 x 8 + 8 + 6 x 1 is less than 9 x 8 + 24 x 70.
+    // Eight looks, and ten options with seven other items each, which are tried in two passes, since they have more than six items:
+    // 50 + 3 x 8 + 5 x 20 + 18 is less than 10 x 8 + 16 x 70.
     Row(
         ALIKE,
         0,
         Costs {
+            chosen: 1,
             looked: 8,
             hidden: 70,
             looked_words: 8,
-            covered_words: 1,
+            written_words: 20,
+            row_words: 1,
         },
         true,
     ),

@@ -1,4 +1,4 @@
-use Rattle.polylab_engine.proofs.ListedLemmas.{report_covers}
+use Rattle.polylab_engine.proofs.CoverListLemmas.{report_covers}
 use Rattle.polylab_engine.proofs.ClassifiedLemmas.{classes_text}
 use Rattle.polylab_engine.proofs.classes.count_classes.Goals as goal
 

@@ -1,4 +1,4 @@
-use Rattle.std.proofs.Common.{ℕ, ◌+◌, ◌*◌, ◌^◌, ◌<◌, ◌≤◌, zero, suc, arith}
+use Rattle.std.proofs.Common.{ℕ, ◌+◌, ◌^◌, ◌<◌, arith}
 use Rattle.polylab_engine.specs.Account.{PassesBlock}
 use Rattle.polylab_engine.proofs.laws.no_block_is_passed_within_one.Goals as goal
 

@@ -2,7 +2,7 @@ use Rattle.std.proofs.Common.{subst}
 use Rattle.cover_problem.specs.Problem.{ProblemValue}
 use Rattle.polylab_engine.specs.First.{IsFirstReport}
 use Rattle.polylab_engine.proofs.FirstLemmas.{packings_shown}
-use Rattle.polylab_engine.proofs.ListedLemmas.{first_report_covers}
+use Rattle.polylab_engine.proofs.CoverListLemmas.{first_report_covers}
 use Rattle.polylab_engine.proofs.packed.first_packings.Goals as goal
 
 pub write_packings-requires : goal.write_packings-requires

@@ -1,4 +1,4 @@
-use Rattle.polylab_engine.proofs.ListedLemmas.{report_covers}
+use Rattle.polylab_engine.proofs.CoverListLemmas.{report_covers}
 use Rattle.polylab_engine.proofs.packed.solve.Goals as goal
 
 pub write_packings-requires : goal.write_packings-requires

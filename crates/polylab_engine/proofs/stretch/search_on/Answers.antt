@@ -15,17 +15,17 @@ walk_to_stop-requires-clause-empty g c =
 
 pub returns-clause-stop : goal.returns-clause-stop
 returns-clause-stop g c =
-    subst (λ (n : ℕ). StopsAt c.args.first c.args.most (stands c.args.searcher) c.args.end.now n (state_value c.in_ok-stop.stop)) (sym (ap (λ (r : ReportValue). r.visited) c.in_ok-report.ensures))
-    (subst (λ (s : StateValue). StopsAt c.args.first c.args.most (stands c.args.searcher) c.args.end.now c.walk_to_stop.new.tally.visited s) (sym (c.in_ok-stop.ensures ∙ c.state.ensures.state))
+    subst (λ (n : ℕ). StopsAt c.args.bounds.first c.args.bounds.most (stands c.args.searcher) c.args.bounds.end.now n (state_value c.in_ok-stop.stop)) (sym (ap (λ (r : ReportValue). r.visited) c.in_ok-report.ensures))
+    (subst (λ (s : StateValue). StopsAt c.args.bounds.first c.args.bounds.most (stands c.args.searcher) c.args.bounds.end.now c.walk_to_stop.new.tally.visited s) (sym (c.in_ok-stop.ensures ∙ c.state.ensures.state))
     c.in_ok-walk_to_stop.ensures.stop)
 
 pub returns-clause-first : goal.returns-clause-first
 returns-clause-first g c =
-    subst (λ (k : ℕ). ForSome c.args.first (λ n. k ≤ n)) (sym (ap (λ (r : ReportValue). r.visited) c.in_ok-report.ensures)) c.in_ok-walk_to_stop.ensures.first
+    subst (λ (k : ℕ). ForSome c.args.bounds.first (λ n. k ≤ n)) (sym (ap (λ (r : ReportValue). r.visited) c.in_ok-report.ensures)) c.in_ok-walk_to_stop.ensures.first
 
 pub returns-clause-soon : goal.returns-clause-soon
 returns-clause-soon g c =
-    subst (λ (k : ℕ). ForSome c.args.first (λ n. HasFewerBefore (stands c.args.searcher) k n)) (sym (ap (λ (r : ReportValue). r.steps) c.in_ok-report.ensures)) c.in_ok-walk_to_stop.ensures.soon
+    subst (λ (k : ℕ). ForSome c.args.bounds.first (λ n. HasFewerBefore (stands c.args.searcher) k n)) (sym (ap (λ (r : ReportValue). r.steps) c.in_ok-report.ensures)) c.in_ok-walk_to_stop.ensures.soon
 
 pub returns-clause-fits : goal.returns-clause-fits
 returns-clause-fits g c =
@@ -34,4 +34,4 @@ returns-clause-fits g c =
 pub returns-clause-report : goal.returns-clause-report
 returns-clause-report g c =
     c.in_ok-report.ensures ∙ ap report_of c.in_ok-walk_to_stop.ensures.account
-    ∙ ap (λ (s : StateValue). report_from c.args.keeps (stands c.args.searcher) s) (sym (c.in_ok-stop.ensures ∙ c.state.ensures.state))
+    ∙ ap (λ (s : StateValue). report_from c.args.bounds.keeps (stands c.args.searcher) s) (sym (c.in_ok-stop.ensures ∙ c.state.ensures.state))

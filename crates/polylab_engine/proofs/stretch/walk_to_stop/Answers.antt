@@ -22,7 +22,8 @@ loop-alloc-init g c =
           size (c.requires.empty ∙ ap empty_account (sym size)) c.in_ok-counts.ensures (omega arith),
       omega arith,
       λ n e. let none = ap (λ (t : Account). t.visited) c.requires.empty in omega arith,
-      fewer_begin _ _ c.args.first c.stands_in_run.ensures.fits,
+      fewer_begin _ _ c.args.bounds.first c.stands_in_run.ensures.fits,
+      omega arith,
     )
 
 pub returns-then-walk-eq0-clause-stop : goal.returns-then-walk-eq0-clause-stop
@@ -32,7 +33,7 @@ returns-then-walk-eq0-clause-stop g c =
     let walk = subst (λ l. IsWalk (stands c.loop-alloc.searcher).problem (stands c.loop-alloc.searcher).state (stands c.walk_on-walk.new.searcher).state l c.walk_on-walk.new.counts c.walk_on-walk.result.steps c.walk_on-walk.result.event) c.deref_mut.ensures.value c.walk_on-walk.ensures.walk in
     let told = ap (λ (t : Account). t.visited) c.in_ok-add_counts.ensures.others in
     let why = why_none c.pace_of.ensures.none (c.walk_on-walk.ensures.none none) in
-    either why (λ full. full_is c.args.first c.loop-alloc.tally.visited (c.is_full.ensures.0 full) c.loop-alloc.invariant.2 ∙ ap Some (sym told))
+    either why (λ full. full_is c.args.bounds.first c.loop-alloc.tally.visited (c.is_full.ensures.0 full) c.loop-alloc.invariant.2 ∙ ap Some (sym told))
     (λ stops. searches_stop _ _ _ _ _ _ (stands c.walk_on-walk.new.searcher) _ _ _ _ _ _ _ c.loop-alloc.invariant.0 walk none c.loop-alloc.invariant.1 stops)
 
 pub returns-then-walk-eq0-clause-first : goal.returns-then-walk-eq0-clause-first
@@ -47,7 +48,7 @@ returns-then-walk-eq0-clause-soon g c =
     let from = (stands c.args.searcher.now).state in
     let taken : c.add_counts.new.self.steps ≡ steps_between p from (stands c.loop-alloc.searcher).state =
     ap (λ (t : Account). t.steps) c.in_ok-add_counts.ensures.others ∙ search.tells.steps_are ∙ length-states p (steps_between p from (stands c.loop-alloc.searcher).state) from in
-    subst (FewerBefore p from c.args.first) (sym taken) c.loop-alloc.invariant.3
+    subst (FewerBefore p from c.args.bounds.first) (sym taken) c.loop-alloc.invariant.3
 
 pub returns-then-walk-eq0-clause-fits : goal.returns-then-walk-eq0-clause-fits
 returns-then-walk-eq0-clause-fits g c =
@@ -84,23 +85,24 @@ loop-alloc-preserved g c =
     let pace = c.pace_of.ensures.room in
     let within = c.walk_on-walk.ensures.within in
     let some = c.if-walk-eq0.false in
-    let less : IsSomeAnd c.args.first (λ n. n ≤ c.loop-alloc.tally.visited) → ⊥ = λ h. let full = c.pace_of.ensures.full (c.is_full.ensures.1 h) in omega arith in
+    let less : IsSomeAnd c.args.bounds.first (λ n. n ≤ c.loop-alloc.tally.visited) → ⊥ = λ h. let full = c.pace_of.ensures.full (c.is_full.ensures.1 h) in omega arith in
     let noted = ap (λ (t : Account). t.visited) c.in_ok-note.ensures in
     let more = visits_within c.loop-alloc.tally.visited c.walk_on-walk.result.event in
     let one : c.note.new.self.visited ≤ c.loop-alloc.tally.visited + 1 = omega arith in
     let search = c.loop-alloc.invariant.0 in
-    let fewer = subst (FewerBefore (stands c.args.searcher.now).problem (stands c.args.searcher.now).state c.args.first)
+    let fewer = subst (FewerBefore (stands c.args.searcher.now).problem (stands c.args.searcher.now).state c.args.bounds.first)
     (sym (steps_on _ _ _ _ _ _ (stands c.walk_on-walk.new.searcher) _ _ _ _ _ _ _ search walk))
-    (fewer_on (stands c.args.searcher.now).problem (stands c.args.searcher.now).state (stands c.loop-alloc.searcher).state c.args.first c.loop-alloc.tally.visited c.walk_on-walk.result.steps
+    (fewer_on (stands c.args.searcher.now).problem (stands c.args.searcher.now).state (stands c.loop-alloc.searcher).state c.args.bounds.first c.loop-alloc.tally.visited c.walk_on-walk.result.steps
     search.from_fits search.fits search.begun search.tells.visited_is less
     (subst (λ (q : ProblemValue). OnlyMoves q c.walk_on-walk.result.steps (stands c.loop-alloc.searcher).state) search.same walk.moves) c.loop-alloc.invariant.3) in
     let path = c.deref-in-loop-alloc.ensures.value ∙ ap (λ (s : StateValue). s.path) c.state.ensures.state in
     let on = searches_on _ _ _ _ _ _ (stands c.walk_on-walk.new.searcher) _ _ _ _ _ _ _ c.loop-alloc.invariant.0 walk _ _ _ c.walk_on-walk.ensures.problem (omega arith)
     (pace_left c.loop-alloc.left c.pace_of.result _ c.pace_of.ensures.left within) c.walk_on-walk.ensures.before path c.in_ok-note.ensures c.left_after-left.ensures in (
-      subst (λ l. Searches c.args.keeps (stands c.args.searcher.now).problem (stands c.args.searcher.now).state c.args.end.now c.args.most (stands c.walk_on-walk.new.searcher) c.note.new.self l (c.loop-alloc.room - c.walk_on-walk.result.steps) c.left_after-left.result) (sym (lent_whole _ _ _ walk.counted.levels size)) on,
+      subst (λ l. Searches c.args.bounds.keeps (stands c.args.searcher.now).problem (stands c.args.searcher.now).state c.args.bounds.end.now c.args.bounds.most (stands c.walk_on-walk.new.searcher) c.note.new.self l (c.loop-alloc.room - c.walk_on-walk.result.steps) c.left_after-left.result) (sym (lent_whole _ _ _ walk.counted.levels size)) on,
       omega arith,
-      not_full c.args.first c.loop-alloc.tally.visited c.note.new.self.visited less one,
+      not_full c.args.bounds.first c.loop-alloc.tally.visited c.note.new.self.visited less one,
       fewer,
+      c.loop-alloc.invariant.4,
     )
 
 pub loop-alloc-preserved-then-room-eq0 : goal.loop-alloc-preserved-then-room-eq0
@@ -110,15 +112,15 @@ loop-alloc-preserved-then-room-eq0 g c =
     let pace = c.pace_of.ensures.room in
     let within = c.walk_on-walk.ensures.within in
     let some = c.if-walk-eq0.false in
-    let less : IsSomeAnd c.args.first (λ n. n ≤ c.loop-alloc.tally.visited) → ⊥ = λ h. let full = c.pace_of.ensures.full (c.is_full.ensures.1 h) in omega arith in
+    let less : IsSomeAnd c.args.bounds.first (λ n. n ≤ c.loop-alloc.tally.visited) → ⊥ = λ h. let full = c.pace_of.ensures.full (c.is_full.ensures.1 h) in omega arith in
     let noted = ap (λ (t : Account). t.visited) c.in_ok-note.ensures in
     let others = ap (λ (t : Account). t.visited) c.in_ok-add_counts-2.ensures.others in
     let more = visits_within c.loop-alloc.tally.visited c.walk_on-walk.result.event in
     let one : c.add_counts-then-room-eq0.new.self.visited ≤ c.loop-alloc.tally.visited + 1 = omega arith in
     let search = c.loop-alloc.invariant.0 in
-    let fewer = subst (FewerBefore (stands c.args.searcher.now).problem (stands c.args.searcher.now).state c.args.first)
+    let fewer = subst (FewerBefore (stands c.args.searcher.now).problem (stands c.args.searcher.now).state c.args.bounds.first)
     (sym (steps_on _ _ _ _ _ _ (stands c.walk_on-walk.new.searcher) _ _ _ _ _ _ _ search walk))
-    (fewer_on (stands c.args.searcher.now).problem (stands c.args.searcher.now).state (stands c.loop-alloc.searcher).state c.args.first c.loop-alloc.tally.visited c.walk_on-walk.result.steps
+    (fewer_on (stands c.args.searcher.now).problem (stands c.args.searcher.now).state (stands c.loop-alloc.searcher).state c.args.bounds.first c.loop-alloc.tally.visited c.walk_on-walk.result.steps
     search.from_fits search.fits search.begun search.tells.visited_is less
     (subst (λ (q : ProblemValue). OnlyMoves q c.walk_on-walk.result.steps (stands c.loop-alloc.searcher).state) search.same walk.moves) c.loop-alloc.invariant.3) in
     let path = c.deref-in-loop-alloc.ensures.value ∙ ap (λ (s : StateValue). s.path) c.state.ensures.state in
@@ -126,12 +128,13 @@ loop-alloc-preserved-then-room-eq0 g c =
     (pace_left c.loop-alloc.left c.pace_of.result _ c.pace_of.ensures.left within) c.walk_on-walk.ensures.before path c.in_ok-note.ensures c.left_after-left.ensures in
     let row = c.deref-then-room-eq0.ensures.value ∙ lent_whole _ _ _ walk.counted.levels size in
     let sums = subst (λ l. AreSums c.note.new.self.entered l c.add_counts-then-room-eq0.new.self.entered) row c.in_ok-add_counts-2.ensures.sums in (
-      subst (λ (m : MachineValue). Searches c.args.keeps (stands c.args.searcher.now).problem (stands c.args.searcher.now).state c.args.end.now c.args.most m c.add_counts-then-room-eq0.new.self c.in_ok-counts-2.counts.items 4294967295 c.left_after-left.result)
+      subst (λ (m : MachineValue). Searches c.args.bounds.keeps (stands c.args.searcher.now).problem (stands c.args.searcher.now).state c.args.bounds.end.now c.args.bounds.most m c.add_counts-then-room-eq0.new.self c.in_ok-counts-2.counts.items c.before_next-paced.result c.left_after-left.result)
           (sym c.ask_again.ensures.position)
-          (searches_anew _ _ _ _ _ (stands c.walk_on-walk.new.searcher) _ _ _ _ _ _ 4294967295 _ on c.in_ok-add_counts-2.ensures.others sums
+          (searches_anew _ _ _ _ _ (stands c.walk_on-walk.new.searcher) _ _ _ _ _ _ c.before_next-paced.result _ on c.in_ok-add_counts-2.ensures.others sums
           (c.items-items.ensures.count ∙ ap (λ (q : ProblemValue). length q.names) c.problem.ensures) c.in_ok-counts-2.ensures (omega arith)),
       omega arith,
-      not_full c.args.first c.loop-alloc.tally.visited c.add_counts-then-room-eq0.new.self.visited less one,
-      subst (λ (m : MachineValue). FewerBefore (stands c.args.searcher.now).problem (stands c.args.searcher.now).state c.args.first
+      not_full c.args.bounds.first c.loop-alloc.tally.visited c.add_counts-then-room-eq0.new.self.visited less one,
+      subst (λ (m : MachineValue). FewerBefore (stands c.args.searcher.now).problem (stands c.args.searcher.now).state c.args.bounds.first
           (steps_between (stands c.args.searcher.now).problem (stands c.args.searcher.now).state m.state)) (sym c.ask_again.ensures.position) fewer,
+      c.before_next-paced.ensures,
     )

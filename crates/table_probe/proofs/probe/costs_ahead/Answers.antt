@@ -11,7 +11,7 @@ cover_from-requires g c = subst (λ (p : ProblemValue). HasWords p c.in_ok-words
 
 pub move_to-requires : goal.move_to-requires
 move_to-requires g c =
-    subst (λ (p : ProblemValue). Fits p (state_value c.in_ok-start.start)) (sym c.walk_on.ensures) (subst (Fits c.args.machine.now.problem) (sym (c.in_ok-start.ensures ∙ c.state.ensures.state)) c.state.ensures.fits)
+    subst (λ (p : ProblemValue). Fits p (state_value c.in_ok-start.start)) (sym c.walk_on-walked.ensures) (subst (Fits c.args.machine.now.problem) (sym (c.in_ok-start.ensures ∙ c.state.ensures.state)) c.state.ensures.fits)
 
 pub returns : goal.returns
-returns g c = stands_again _ c.walk_on.new.machine _ _ c.move_to.ensures c.walk_on.ensures (c.in_ok-start.ensures ∙ c.state.ensures.state)
+returns g c = stands_again _ c.walk_on-walked.new.machine _ _ c.move_to.ensures c.walk_on-walked.ensures (c.in_ok-start.ensures ∙ c.state.ensures.state)

@@ -43,6 +43,10 @@ true_found p places k slot a r e f =
     let t : IsItemAt places k (Some slot) = subst (IsItemAt places k) f e in
     subst (IsSoundSlot p) (sym t.1) (true_index p places k slot.now a t.3.0)
 
+-- a copy tells what the counts tell
+pub copy_tells : (p : ProblemValue) (key : List ℕ) (old new : Below) → new.visits ≡ old.visits → new.low.items ≡ old.low.items → new.high ≡ old.high → IsBelowKey p key old → IsBelowKey p key new
+copy_tells p key old new v l h t c s k = let a = t c s k in record { visited = v ∙ a.visited; at = λ j. rw (l, h) (a.at j) }
+
 -- counts of a set may be kept under its key
 pub key_tells : (p : ProblemValue) (c : List ℕ) (b : Below) (key : Option (Vec ℕ)) → IsCoveredList p c → IfSome key (λ k. IsKeyOf (length p.names) c k.items) → CountsBelow p c b → IfSome key (λ k. IsBelowKey p k.items b)
 key_tells p c b None s k a = tt

@@ -247,10 +247,13 @@ impl Cache {
         }
     }
 
-    /// Keeps what was counted under a key.
+    /// Keeps what was counted under a key, if there is memory for it.
     fn keep_under(&mut self, key: Vec<u64>, below: Below)
         ensures { StaySoundWith self.old.places.items self.new.places.items key.items below }
     {
+        let Ok(below) = below.fitted(self.alloc) else {
+            return;
+        };
         if self.places.len() / 4 * 3 <= self.filled {
             self.grow();
         }

@@ -1,5 +1,5 @@
 -- The slots of a cache stay sound, whatever is kept or let go.
-use Rattle.std.proofs.Common.{◌≡◌, ℕ, zero, suc, ◌<◌, ◌++◌, List, [], ◌∷◌, Option, Some, None, length, set, slice_index_or, IfSome, Bor, sym, ◌∙◌, subst, arith}
+use Rattle.std.proofs.Common.{Bool, true, false, if◌then◌else◌, ◌≡◌, ℕ, zero, suc, ◌<◌, ◌++◌, List, [], ◌∷◌, Option, Some, None, length, set, slice_index_or, IfSome, Bor, sym, ◌∙◌, subst, arith}
 use Rattle.std.proofs.Math.Path.{fun_ext}
 use Rattle.std.specs.Global.{Vec}
 use Rattle.std.specs.Slice.{IsItemAt}
@@ -24,13 +24,14 @@ true_set p [] k slot a t = tt
 true_set p (x ∷ xs) zero slot a t = (t, a.1)
 true_set p (x ∷ xs) (suc k) slot a t = (a.0, true_set p xs k slot a.1 t)
 
-pub true_push : (p : ProblemValue) (places : List (Option Kept)) (slot : Option Kept) → AreSoundSlots p places → IsSoundSlot p slot → AreSoundSlots p (places ++ slot ∷ [])
+true_push : (p : ProblemValue) (places : List (Option Kept)) (slot : Option Kept) → AreSoundSlots p places → IsSoundSlot p slot → AreSoundSlots p (places ++ slot ∷ [])
 true_push p [] slot a t = (t, tt)
 true_push p (x ∷ xs) slot a t = (a.0, true_push p xs slot a.1 t)
 
-pub true_pop : (p : ProblemValue) (places : List (Option Kept)) (slot : Option Kept) → AreSoundSlots p (places ++ slot ∷ []) → AreSoundSlots p places × IsSoundSlot p slot
-true_pop p [] slot a = (tt, a.0)
-true_pop p (x ∷ xs) slot a = let r = true_pop p xs slot a.1 in ((a.0, r.0), r.1)
+-- a slot may have been pushed
+pub true_pushed : (p : ProblemValue) (old new : List (Option Kept)) (slot : Option Kept) (ok : Bool) → new ≡ (if ok then old ++ slot ∷ [] else old) → AreSoundSlots p old → IsSoundSlot p slot → AreSoundSlots p new
+true_pushed p old new slot true e a t = rw e (true_push p old slot a t)
+true_pushed p old new slot false e a t = rw e a
 
 pub true_index : (p : ProblemValue) (places : List (Option Kept)) (k : ℕ) (d : Option Kept) → AreSoundSlots p places → k < length places → IsSoundSlot p (slice_index_or places k d)
 true_index p [] k d a l = absurd (omega (arith, l))

@@ -21,10 +21,6 @@ abbrev pub AreSoundSlots : ProblemValue → List (Option Kept) → Type 0
 AreSoundSlots p [] = Unit {0}
 AreSoundSlots p (x ∷ xs) = IsSoundSlot p x × AreSoundSlots p xs
 
--- slots that are sound for a problem stay sound for it
-abbrev pub StaySound : List (Option Kept) → List (Option Kept) → Type 0
-StaySound old new = (p : ProblemValue) → AreSoundSlots p old → AreSoundSlots p new
-
--- the same if b counts what lies below the key
+-- slots that are sound for a problem stay sound for it, if b counts what lies below the key
 abbrev pub StaySoundWith : List (Option Kept) → List (Option Kept) → List ℕ → Below → Type 0
 StaySoundWith old new key b = (p : ProblemValue) → AreSoundSlots p old → IsBelowKey p key b → AreSoundSlots p new

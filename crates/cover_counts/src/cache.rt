@@ -4,39 +4,50 @@ ghost use Rattle.cover_problem.specs.Problem.{ProblemValue};
 ghost use Rattle.cover_problem.specs.Table.{IsCoveredList};
 ghost use Rattle.cover_counts.specs.Below.{CountsBelow};
 ghost use Rattle.cover_counts.specs.Keys.{IsKeyOf};
-ghost use Rattle.cover_counts.specs.Kept.{IsBelowKey, IsSoundSlot, AreSoundSlots, StaySound, StaySoundWith};
+ghost use Rattle.cover_counts.specs.Kept.{IsBelowKey, IsSoundSlot, AreSoundSlots, StaySoundWith};
 
 use crate::below::Below;
 use std::alloc::{AllocError, Global};
 
-/// How many places a set may be kept at: its home and those after it.
+/// How many entries a set may have: its home and those after it.
 const WAYS: usize = 8;
 
-/// How many places a cache begins with.
+/// How many entries a cache begins with.
 const FIRST: usize = 1024;
 
-/// How many bytes an empty place takes.
-const PLACE: usize = 128;
+/// How many bytes an entry takes.
+const ENTRY: usize = 16;
+
+/// How many bytes a place takes.
+const PLACE: usize = 112;
 
 /// How many bytes a set takes beside its lists: the allocator's own words.
 const BESIDE: usize = 48;
 
+/// The place of a set that isn't kept.
+const NOWHERE: usize = usize::MAX;
+
 /// What was counted below one set.
 #[derive(Drop)]
 pub(crate) struct Kept {
-    /// The key in 64 bits. Sets with different marks have different keys.
-    mark: u64,
     pub(crate) key: Vec<u64>,
     pub(crate) below: Below,
+}
+
+/// Where a set is kept. Entries are small, so that few of them are asked for in vain.
+#[derive(Clone, Copy)]
+struct Entry {
+    /// The key in 64 bits. Sets with different marks have different keys.
+    mark: u64,
+    place: usize,
 }
 
 /// Sets that were counted. Some may be thrown away at any time: what is found is right all the same.
 #[derive(Drop)]
 pub(crate) struct Cache {
     pub(crate) places: Vec<Option<Kept>>,
-    /// How many sets are kept.
-    filled: usize,
-    /// How many bytes the sets and the places take.
+    entries: Vec<Entry>,
+    /// How many bytes the sets, the places and the entries take.
     used: usize,
     /// How many bytes they may take.
     room: usize,
@@ -53,30 +64,52 @@ fn mark_of(key: &[u64]) -> u64 {
     mark
 }
 
-/// The first of `places` places at which a set with this mark may be kept.
-fn home_of(mark: u64, places: usize) -> usize {
-    ((mark as u128 * places as u128) >> 64) as usize
+/// The first of `entries` entries that a set with this mark may have.
+fn home_of(mark: u64, entries: usize) -> usize {
+    ((mark as u128 * entries as u128) >> 64) as usize
 }
 
-/// Whether a slot is empty or has a set with this mark.
-fn serves(slot: &Option<Kept>, mark: u64) -> bool {
-    match slot {
-        Some(kept) => kept.mark == mark,
-        None => true,
-    }
+/// Whether an entry is empty or has this mark.
+fn serves(entry: &Entry, mark: u64) -> bool {
+    entry.place == NOWHERE || entry.mark == mark
 }
 
-/// The place of a set with this mark: the first one from its home on that is empty or has the mark, or else its home.
-fn place_of(places: &[Option<Kept>], mark: u64) -> usize {
-    let home = home_of(mark, places.len());
-    for place in home..home.saturating_add(WAYS) {
-        if let Some(slot) = places.get(place) {
-            if serves(slot, mark) {
-                return place;
+/// The number of the entry for a set with this mark: the first one from its home on that is empty or has the mark, or else its home.
+fn entry_of(entries: &[Entry], mark: u64) -> usize {
+    let home = home_of(mark, entries.len());
+    for number in home..home.saturating_add(WAYS) {
+        if let Some(entry) = entries.get(number) {
+            if serves(entry, mark) {
+                return number;
             }
         }
     }
     home
+}
+
+/// The place that the entry for a set with this mark tells.
+fn place_of(entries: &[Entry], mark: u64) -> usize {
+    match entries.get(entry_of(entries, mark)) {
+        Some(entry) => entry.place,
+        None => NOWHERE,
+    }
+}
+
+/// Notes the place of a set with this mark.
+fn note(entries: &mut [Entry], mark: u64, place: usize) {
+    let number = entry_of(entries, mark);
+    if number < entries.len() {
+        entries[number] = Entry { mark, place };
+    }
+}
+
+/// Notes the places of other entries too.
+fn note_all(entries: &mut [Entry], others: &[Entry]) {
+    for entry in others {
+        if entry.place != NOWHERE {
+            note(entries, entry.mark, entry.place);
+        }
+    }
 }
 
 /// What a slot keeps, if it is under this key.
@@ -96,21 +129,21 @@ fn kept_in<'a>(slot: &'a Option<Kept>, key: &[u64]) -> Option<&'a Below>
 }
 
 /// What is kept under a key.
-fn find_in<'a>(places: &'a [Option<Kept>], key: &[u64]) -> Option<&'a Below>
+fn find_in<'a>(places: &'a [Option<Kept>], entries: &[Entry], key: &[u64]) -> Option<&'a Below>
     ensures { (p : ProblemValue) (c : List ℕ) → AreSoundSlots p places.now → IsCoveredList p c
         → IsKeyOf (length p.names) c key.now → IfSome result (λ below. CountsBelow p c below.now) }
 {
-    match places.get(place_of(places, mark_of(key))) {
+    match places.get(place_of(entries, mark_of(key))) {
         Some(slot) => kept_in(slot, key),
         None => None,
     }
 }
 
-/// How many bytes the set at a place takes, and how many sets are there: 1 or 0.
-fn taken_at(places: &[Option<Kept>], place: usize) -> (usize, usize) {
+/// How many bytes the set at a place takes beside the place.
+fn taken_at(places: &[Option<Kept>], place: usize) -> usize {
     match places.get(place) {
-        Some(Some(kept)) => (kept.bytes(), 1),
-        _ => (0, 0),
+        Some(Some(kept)) => kept.bytes(),
+        _ => 0,
     }
 }
 
@@ -124,24 +157,28 @@ fn set_at(places: &mut Vec<Option<Kept>>, place: usize, slot: Option<Kept>)
     }
 }
 
-/// This number of empty places.
-fn empty_places(alloc: Global, count: usize) -> Result<Vec<Option<Kept>>, AllocError>
-    ensures { IfOk result (λ places. (p : ProblemValue) → AreSoundSlots p places.items) }
-{
-    let mut places = Vec::with_capacity(alloc, count)?;
-    for _ in 0..count {
-        places.push(None)?;
-    }
-    Ok(places)
+/// How many places there are for so many entries. The others stay empty, so that a search for an entry soon ends.
+fn places_for(entries: usize) -> usize {
+    entries / 4 * 3
 }
 
-/// How many bytes this number of places takes.
-fn bytes_of(places: usize) -> usize {
-    places.saturating_mul(PLACE)
+/// How many bytes so many entries and their places take.
+fn bytes_of(entries: usize) -> usize {
+    let places = places_for(entries).saturating_mul(PLACE);
+    entries.saturating_mul(ENTRY).saturating_add(places)
+}
+
+/// This number of empty entries.
+fn empty_entries(alloc: Global, count: usize) -> Result<Vec<Entry>, AllocError> {
+    let empty = Entry {
+        mark: 0,
+        place: NOWHERE,
+    };
+    vec![in alloc; empty; count]
 }
 
 impl Kept {
-    /// How many bytes it takes.
+    /// How many bytes its lists take.
     fn bytes(&self) -> usize {
         self.below
             .bytes()
@@ -157,30 +194,11 @@ impl Cache {
     {
         Cache {
             places: Vec::new(alloc),
-            filled: 0,
+            entries: Vec::new(alloc),
             used: 0,
             room,
             alloc,
         }
-    }
-
-    /// The same with `count` places, or none if there is no memory or no room for them.
-    fn with_places(alloc: Global, count: usize, room: usize) -> Option<Cache>
-        ensures { IfSome result (λ cache. (p : ProblemValue) → AreSoundSlots p cache.places.items) }
-    {
-        if room < bytes_of(count) {
-            return None;
-        }
-        let Ok(places) = empty_places(alloc, count) else {
-            return None;
-        };
-        Some(Cache {
-            places,
-            filled: 0,
-            used: bytes_of(count),
-            room,
-            alloc,
-        })
     }
 
     /// The allocator that it takes memory from.
@@ -196,24 +214,21 @@ impl Cache {
             → IfSome result (λ below. CountsBelow p c below.now) }
     {
         match key {
-            Some(key) => find_in(&self.places, key),
+            Some(key) => find_in(&self.places, &self.entries, key),
             None => None,
         }
     }
 
-    /// Keeps a set, in place of the one that was there. If there is no room for it, both are let go.
-    fn put(&mut self, kept: Kept)
+    /// Keeps a set in place of the one at this place. If there is no room for it, both are let go.
+    fn replace(&mut self, place: usize, mark: u64, kept: Kept)
         ensures { StaySoundWith self.old.places.items self.new.places.items
             kept.key.items kept.below }
     {
-        let place = place_of(&self.places, kept.mark);
-        let (bytes, sets) = taken_at(&self.places, place);
-        let others = self.used.saturating_sub(bytes);
+        let others = self.used.saturating_sub(taken_at(&self.places, place));
         let used = others.saturating_add(kept.bytes());
-        self.filled = self.filled.saturating_sub(sets);
         if used <= self.room {
             self.used = used;
-            self.filled = self.filled.saturating_add(1);
+            note(&mut self.entries, mark, place);
             set_at(&mut self.places, place, Some(kept));
         } else {
             self.used = others;
@@ -221,41 +236,60 @@ impl Cache {
         }
     }
 
-    /// Puts all sets of another cache into this one.
-    fn put_all(&mut self, places: &mut Vec<Option<Kept>>)
-        ensures { (p : ProblemValue)
-            → AreSoundSlots p self.old.places.items → AreSoundSlots p places.old.items
-            → AreSoundSlots p self.new.places.items }
+    /// Keeps a set at a place of its own, if there is room for it.
+    fn add(&mut self, mark: u64, kept: Kept)
+        ensures { StaySoundWith self.old.places.items self.new.places.items
+            kept.key.items kept.below }
     {
-        while let Some(slot) = places.pop() {
-            if let Some(kept) = slot {
-                self.put(kept);
+        let place = self.places.len();
+        let used = self.used.saturating_add(kept.bytes());
+        if used <= self.room && place < self.places.capacity() {
+            if self.places.push(Some(kept)).is_ok() {
+                self.used = used;
+                note(&mut self.entries, mark, place);
             }
         }
     }
 
-    /// Doubles the places, if there is memory and room for them.
+    /// Doubles the entries, if there is memory and room for them and their places.
     fn grow(&mut self)
-        ensures { StaySound self.old.places.items self.new.places.items }
+        ensures { self.new.places.items ≡ self.old.places.items }
     {
-        let count = self.places.len().saturating_mul(2).max(FIRST);
-        let room = self.room.saturating_sub(self.used);
-        if let Some(mut bigger) = Cache::with_places(self.alloc, count, room) {
-            bigger.room = self.room;
-            bigger.put_all(&mut self.places);
-            *self = bigger;
+        let count = self.entries.len().saturating_mul(2).max(FIRST);
+        let others = self.used.saturating_sub(bytes_of(self.entries.len()));
+        let used = others.saturating_add(bytes_of(count));
+        if self.room < used {
+            return;
+        }
+        let Ok(mut entries) = empty_entries(self.alloc, count) else {
+            return;
+        };
+        let more = places_for(count).saturating_sub(self.places.len());
+        if self.places.reserve_exact(more).is_ok() {
+            note_all(&mut entries, &self.entries);
+            self.entries = entries;
+            self.used = used;
         }
     }
 
-    /// Keeps what was counted under a key.
+    /// Keeps what was counted under a key, if there is memory for it.
     fn keep_under(&mut self, key: Vec<u64>, below: Below)
         ensures { StaySoundWith self.old.places.items self.new.places.items key.items below }
     {
-        if self.places.len() / 4 * 3 <= self.filled {
+        let Ok(below) = below.fitted(self.alloc) else {
+            return;
+        };
+        if self.places.len() == self.places.capacity() {
             self.grow();
         }
         let mark = mark_of(&key);
-        self.put(Kept { mark, key, below });
+        let place = place_of(&self.entries, mark);
+        let kept = Kept { key, below };
+        if place < self.places.len() {
+            self.replace(place, mark, kept);
+        } else {
+            self.add(mark, kept);
+        }
     }
 
     /// The same, if there is a key.

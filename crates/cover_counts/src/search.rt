@@ -1,5 +1,5 @@
 //! The search. It doesn't go below a set of covered items that the cache has.
-ghost use Rattle.std.specs.Prelude.{ℕ, ◌≡◌, ◌<◌, List, [], length, OnOk, IfOk, IfSome, IfNone, Some, nat_lt};
+ghost use Rattle.std.specs.Prelude.{ℕ, ◌≡◌, ◌<◌, List, [], length, false, OnOk, IfOk, IfSome, IfNone, IsTrue, Some, nat_lt};
 ghost use Rattle.shared_words.specs.Lists.{above};
 ghost use Rattle.cover_problem.specs.Problem.{ProblemValue};
 ghost use Rattle.cover_problem.specs.Covering.{active, remaining, choice};
@@ -12,7 +12,7 @@ ghost use Rattle.cover_counts.specs.Search.{IsTableOf, IsTaken, IsEntered, IsCou
 
 use crate::below::Below;
 use crate::cache::Cache;
-use crate::key::key_of;
+use crate::key::{key_of, key_with};
 use cover_problem::{Problem, Table};
 use std::alloc::{AllocError, Global};
 
@@ -50,22 +50,17 @@ fn key_now<T: Table>(alloc: Global, table: &T, problem: &Problem) -> Option<Vec<
     key_of(alloc, problem.items(), table.covered())
 }
 
-/// Takes up the set of covered items, before any option of the chosen item is tried.
-fn take_up<T: Table>(
+/// Takes up a set of covered items, before any option of the chosen item is tried.
+fn take_up(
     alloc: Global,
-    table: &T,
-    problem: &Problem,
     item: u32,
     next: Option<u32>,
+    key: Option<Vec<u64>>,
 ) -> Result<Open, AllocError>
-    requires at { IsTableOf problem.now (T.problem_value table.now) (T.covered_list table.now) }
-    requires open { 0 < length (active problem.now (T.covered_list table.now)) }
-    requires item { item ≡ choice problem.now (T.covered_list table.now) }
-    requires next { next ≡ above 0 (remaining problem.now (T.covered_list table.now)
-        (choice problem.now (T.covered_list table.now))) }
-    ensures { IfOk result (IsTaken problem.now (T.covered_list table.now)) }
+    ensures { (p : ProblemValue) (c : List ℕ) → IsCoveredList p c → 0 < length (active p c)
+        → item ≡ choice p c → next ≡ above 0 (remaining p c (choice p c))
+        → IfSome key (λ k. IsKeyOf (length p.names) c k.items) → IfOk result (IsTaken p c) }
 {
-    let key = key_now(alloc, table, problem);
     let below = Below::of_state(alloc)?;
     Ok(Open {
         item,
@@ -75,7 +70,7 @@ fn take_up<T: Table>(
     })
 }
 
-/// The same, with the item that the table chooses.
+/// The same of the items that the table covers.
 pub(crate) fn start<T: Table>(
     alloc: Global,
     table: &T,
@@ -87,55 +82,34 @@ pub(crate) fn start<T: Table>(
 {
     let item = table.choose();
     let next = table.first_option(item);
-    take_up(alloc, table, problem, item, next)
+    take_up(alloc, item, next, key_now(alloc, table, problem))
 }
 
-/// Adds what lies below a set if the cache has it, and otherwise gives the set back.
-fn add_kept(
+/// Adds a dead end, or takes the set of covered items up, whose key is this one. An item is active.
+fn open_set<T: Table>(
     alloc: Global,
-    cache: &Cache,
-    set: Open,
-    sum: &mut Below,
-) -> Result<Option<Open>, AllocError>
-    ensures known { (p : ProblemValue) (c : List ℕ) → AreSoundSlots p cache.now.places.items
-        → IsCoveredList p c → IsTaken p c set
-        → IfOk result (λ r. IfNone r (GainsBelow p c sum.old sum.new)) }
-    ensures open { IfOk result (λ r. IfSome r (λ o. (o ≡ set) × (sum.new ≡ sum.old))) }
-{
-    match cache.find(&set.key) {
-        Some(below) => {
-            sum.add_deeper(alloc, below)?;
-            Ok(None)
-        }
-        None => Ok(Some(set)),
-    }
-}
-
-/// Adds what lies below the covered items if that is known, and otherwise takes the set up. An item is active.
-fn look_up<T: Table>(
     table: &T,
     problem: &Problem,
-    cache: &Cache,
+    key: Option<Vec<u64>>,
     sum: &mut Below,
 ) -> Result<Option<Open>, AllocError>
     requires at { IsTableOf problem.now (T.problem_value table.now) (T.covered_list table.now) }
-    requires kept { AreSoundSlots problem.now cache.now.places.items }
+    requires key { IfSome key (λ k. IsKeyOf (length problem.now.names)
+        (T.covered_list table.now) k.items) }
     requires open { 0 < length (active problem.now (T.covered_list table.now)) }
     ensures known { IfOk result (λ r. IfNone r
         (GainsBelow problem.now (T.covered_list table.now) sum.old sum.new)) }
     ensures open { IfOk result (λ r. IfSome r
         (λ o. IsTaken problem.now (T.covered_list table.now) o × (sum.new ≡ sum.old))) }
 {
-    let alloc = cache.alloc();
     let item = table.choose();
     let next = table.first_option(item);
-    // A dead end isn't looked up, since that would take longer than to count it.
+    // A dead end isn't kept, since it takes no longer to count it.
     if next.is_none() {
         sum.add_state(alloc)?;
         return Ok(None);
     }
-    let open = take_up(alloc, table, problem, item, next)?;
-    add_kept(alloc, cache, open, sum)
+    Ok(Some(take_up(alloc, item, next, key)?))
 }
 
 /// Whether an item is active.
@@ -146,25 +120,58 @@ pub(crate) fn has_active<T: Table>(table: &T) -> bool
     table.first_item().is_some()
 }
 
-/// Adds what lies below the covered items if that is known, and otherwise takes the set up.
+/// Adds a visit or a dead end, and takes up any other set of covered items.
 fn arrive<T: Table>(
+    alloc: Global,
     table: &T,
     problem: &Problem,
-    cache: &Cache,
+    key: Option<Vec<u64>>,
     sum: &mut Below,
 ) -> Result<Option<Open>, AllocError>
     requires at { IsTableOf problem.now (T.problem_value table.now) (T.covered_list table.now) }
-    requires kept { AreSoundSlots problem.now cache.now.places.items }
+    requires key { IfSome key (λ k. IsKeyOf (length problem.now.names)
+        (T.covered_list table.now) k.items) }
     ensures known { IfOk result (λ r. IfNone r
         (GainsBelow problem.now (T.covered_list table.now) sum.old sum.new)) }
     ensures open { IfOk result (λ r. IfSome r
         (λ o. IsTaken problem.now (T.covered_list table.now) o × (sum.new ≡ sum.old))) }
 {
     if !has_active(table) {
-        sum.add_visit(cache.alloc())?;
+        sum.add_visit(alloc)?;
         return Ok(None);
     }
-    look_up(table, problem, cache, sum)
+    open_set(alloc, table, problem, key, sum)
+}
+
+/// Adds what lies below an option if the cache has it, and goes on to the next option. So nothing is covered for it.
+fn pass<T: Table>(
+    table: &T,
+    problem: &Problem,
+    cache: &Cache,
+    top: &mut Open,
+    option: u32,
+    key: &Option<Vec<u64>>,
+) -> Result<bool, AllocError>
+    requires at { IsTableOf problem.now (T.problem_value table.now) (T.covered_list table.now) }
+    requires kept { AreSoundSlots problem.now cache.now.places.items }
+    requires top { IsTaken problem.now (T.covered_list table.now) top.old }
+    requires next { top.old.next ≡ Some option }
+    requires key { IfSome key.now (λ k. IsKeyOf (length problem.now.names)
+        (taken problem.now (T.covered_list table.now) option) k.items) }
+    ensures gone { IfOk result (λ known. IsTrue known
+        → IsTaken problem.now (T.covered_list table.now) top.new) }
+    ensures fewer { IfOk result (λ known. IsTrue known
+        → left_of problem.now top.new.next < left_of problem.now top.old.next) }
+    ensures same { IfOk result (λ known. known ≡ false → top.new ≡ top.old) }
+{
+    match cache.find(key) {
+        Some(below) => {
+            top.below.add_deeper(cache.alloc(), below)?;
+            top.next = table.next_option(top.item, option);
+            Ok(true)
+        }
+        None => Ok(false),
+    }
 }
 
 /// Uncovers the items of an option and goes on to the next one.
@@ -214,8 +221,13 @@ fn try_option<T: Table>(
         (λ o. IsTaken problem.now (T.covered_list table.old) top.new
         × (top.new.next ≡ Some option))) }
 {
+    let alloc = cache.alloc();
+    let key = key_with(alloc, problem.items(), &top.key, problem.option(option));
+    if pass(table, problem, cache, top, option, &key)? {
+        return Ok(None);
+    }
     enter(table, problem, top.item, option);
-    match arrive(table, problem, cache, &mut top.below)? {
+    match arrive(alloc, table, problem, key, &mut top.below)? {
         Some(open) => Ok(Some(open)),
         None => {
             go_on(table, problem, top, option);

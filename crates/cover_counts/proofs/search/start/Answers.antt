@@ -7,5 +7,7 @@ first_option-next-requires-clause-some g c = (chosen_bounds _ _ _ _ c.requires.a
 pub first_option-next-requires-clause-within : goal.first_option-next-requires-clause-within
 first_option-next-requires-clause-within g c = (chosen_bounds _ _ _ _ c.requires.at c.requires.open c.choose-item.ensures).2
 
-pub take_up-requires-clause-next : goal.take_up-requires-clause-next
-take_up-requires-clause-next g c = chosen_first _ _ _ _ _ c.requires.at c.requires.open (chosen_bounds _ _ _ _ c.requires.at c.requires.open c.choose-item.ensures).0 c.first_option-next.ensures
+pub returns : goal.returns
+returns g c =
+    let b = chosen_bounds _ _ _ _ c.requires.at c.requires.open c.choose-item.ensures in
+    c.take_up.ensures _ _ c.requires.at.covered c.requires.open b.0 (chosen_first _ _ _ _ _ c.requires.at c.requires.open b.0 c.first_option-next.ensures) c.key_now.ensures

@@ -30,6 +30,7 @@ loop-least-init c =
       begins _ _ _ _ m.is (ap (option_map (λ k. k + 1)) c.unwrap-best.ensures) _ c.len_in-least.ensures,
       rw (← c.deref-2.ensures.value) c.take_next.ensures.placed,
       subst (λ o. IfSome o (λ n. IsAhead c.self.inside.active.items c.take_next.new.rest n)) (ap (option_map (λ k. k + 1)) c.unwrap-best.ensures) m.ahead,
+      c.take_next.ensures.starts,
     )
 
 pub len_in-len-requires : goal.len_in-len-requires
@@ -52,6 +53,7 @@ loop-least-preserved-then-len-least c =
       takes _ _ _ _ _ _ _ c.loop-least.invariant.0 m.is (ap (option_map (λ k. k + 1)) c.in-Some.is) _ c.len_in-len.ensures c.if-len-least.true,
       rw (← c.deref-in-loop-least.ensures.value) c.take_next-in-loop-least.ensures.placed,
       subst (λ o. IfSome o (λ n. IsAhead c.self.inside.active.items c.take_next-in-loop-least.new.rest n)) (ap (option_map (λ k. k + 1)) c.in-Some.is) m.ahead,
+      c.take_next-in-loop-least.ensures.starts,
     )
 
 pub loop-least-smaller : goal.loop-least-smaller
@@ -67,6 +69,7 @@ loop-least-preserved c =
       keeps _ _ _ _ _ _ _ c.loop-least.invariant.0 m.is (ap (option_map (λ k. k + 1)) c.in-Some.is) _ c.len_in-len.ensures c.if-len-least.false,
       rw (← c.deref-in-loop-least.ensures.value) c.take_next-in-loop-least.ensures.placed,
       subst (λ o. IfSome o (λ n. IsAhead c.self.inside.active.items c.take_next-in-loop-least.new.rest n)) (ap (option_map (λ k. k + 1)) c.in-Some.is) m.ahead,
+      c.take_next-in-loop-least.ensures.starts,
     )
 
 pub returns-in_default : goal.returns-in_default

@@ -16,7 +16,7 @@ numbers_of_row : filter (in_row row) (numbers 192 0) ≡ 0 ∷ 2 ∷ 129 ∷ []
 numbers_of_row = refl
 
 -- a walk that has met 0 has still to meet 2 and 129
-after_zero : filter (to_come row (record { word = 4; place = 0 })) (numbers 192 0) ≡ 2 ∷ 129 ∷ []
+after_zero : filter (to_come row (record { word = 4; place = 0; first = 0 })) (numbers 192 0) ≡ 2 ∷ 129 ∷ []
 after_zero = refl
 
 -- its parts

@@ -1,5 +1,5 @@
 -- The walk over the active items that `choose` makes: each that it meets is the next one.
-use Rattle.std.proofs.Common.{◌≡◌, ℕ, ◌+◌, ◌==◌, not, ◌&&◌, Option, Some, None, option_map, List, refl, sym, ◌∙◌, arith, subst}
+use Rattle.std.proofs.Common.{◌≡◌, ℕ, ◌+◌, ◌==◌, not, ◌&&◌, Option, Some, None, option_map, IsSome, List, refl, sym, ◌∙◌, arith, subst}
 use Rattle.std.specs.Prelude.{IfSome}
 use Rattle.std.proofs.lemmas.Bool.{le-leb}
 use Rattle.shared_words.specs.Lists.{above}
@@ -47,3 +47,7 @@ module _ {o pr w : ℕ} {cols : List ℕ} {ps : List Part} {ns bs act : List ℕ
   -- nothing was met before
   pub first_met : (row2 : List ℕ) → row2 ≡ act → ((j : ℕ) → to_come row2 rest j ≡ in_row row2 j) → NextMet t.problem t.covered act rest2 0 next
   first_met row2 at2 all = next_met 0 (subst (λ r. IsAhead r rest 0) at2 (λ j. rw (le-leb 0 j (omega arith)) (all j)))
+
+pub some_number : (found o : Option ℕ) → option_map (λ k. k + 1) found ≡ o → IsSome o → IsSome found
+some_number (Some k) o e some = refl
+some_number None o e some = subst IsSome (sym e) some

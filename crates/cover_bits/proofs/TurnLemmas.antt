@@ -222,17 +222,6 @@ module _ (p : ProblemValue) (c : List ℕ) (active active2 : List ℕ) (i : ℕ)
       by true false d = refl
       by false b d = refl
 
-  pub active_passed : AreActive p c active → p.primary < i → AreActive p (c ++ i ∷ []) active
-  active_passed act l k = act k ∙ by (cases_lt k p.primary)
-    where
-      by : (k < p.primary) ⊎ (p.primary ≤ k) → (nat_lt k p.primary && not (has c (k + 1))) ≡ (nat_lt k p.primary && not (has (c ++ i ∷ []) (k + 1)))
-      by (inl m) = ap (λ b. nat_lt k p.primary && not b) (sym (or-none (has c (k + 1))) ∙ ap (λ b. has c (k + 1) || b) (sym (ne_eqb i (k + 1) (λ e. omega arith))) ∙ sym (has_pushed c i k))
-        where
-          or-none : (b : Bool) → (b || false) ≡ b
-          or-none true = refl
-          or-none false = refl
-      by (inr m) = and_left _ _ (le-ltb k p.primary m) ∙ sym (and_left _ _ (le-ltb k p.primary m))
-
   pub active_added : AreActive p (c ++ i ∷ []) active → has c i ≡ false → i ≤ p.primary → ((k : ℕ) → in_row active2 k ≡ (in_row active k || (k == i - 1))) → AreActive p c active2
   active_added act free l each k =
       each k ∙ ap₂ (λ a b. a || b) (act k ∙ ap (λ b. nat_lt k p.primary && not b) (has_pushed c i k)) (same_number i k some) ∙ by (cases_eq i (k + 1))
@@ -267,17 +256,14 @@ module _ {p : ProblemValue} {options primary words : ℕ} {columns : List ℕ} {
   -- the fields after an item is covered, as the calls leave them
   pub put_fields : (i : ℕ) → IsUncovered p c i → (depth : ℕ) → depth ≡ length c → (bs : List ℕ) → bs ≡ set bases (depth + 1) (get_or bases depth 0)
       → (acts active2 : List ℕ) → acts ≡ active → length active2 ≡ length acts
-      → (i ≤ primary → (k : ℕ) → in_row active2 k ≡ (in_row acts k && not (k == i - 1))) → (primary < i → active2 ≡ acts)
+      → ((k : ℕ) → in_row active2 k ≡ (in_row acts k && not (k == i - 1)))
       → (alen : ℕ) → alen ≡ length active → (c2 : List ℕ) (room2 : ℕ) → c2 ≡ c ++ i ∷ [] → room ≤ room2
       → IsBits p options primary words columns parts counts bs (take alen (active2 ++ drop (length active2) active)) c2 room2
-  put_fields i free depth d bs b acts active2 e long removed kept alen z c2 room2 f g =
+  put_fields i free depth d bs b acts active2 e long removed alen z c2 room2 f g =
       let la : length active2 ≡ length active = long ∙ ap (λ xs. length xs) e in
       rw (lent alen active2 active la z)
-      (bits_put h i free active2 bs c2 room2 (b ∙ ap (λ n. set bases (n + 1) (get_or bases n 0)) d) la (now (cases_lt primary i)) f g)
-    where
-      now : (primary < i) ⊎ (i ≤ primary) → AreActive p (c ++ i ∷ []) active2
-      now (inl l) = subst (λ xs. AreActive p (c ++ i ∷ []) xs) (sym (kept l ∙ e)) (active_passed p c active active i free.some h.active_are (let q = h.primary_is in omega arith))
-      now (inr l) = active_removed p c active active2 i free.some h.active_are (λ k. removed l k ∙ ap (λ xs. in_row xs k && not (k == i - 1)) e)
+      (bits_put h i free active2 bs c2 room2 (b ∙ ap (λ n. set bases (n + 1) (get_or bases n 0)) d) la
+      (active_removed p c active active2 i free.some h.active_are (λ k. removed k ∙ ap (λ xs. in_row xs k && not (k == i - 1)) e)) f g)
 
   pub uncovered_fields : (i : ℕ) → (acts active2 : List ℕ) → acts ≡ active → length active2 ≡ length acts
       → (i ≤ primary → (k : ℕ) → in_row active2 k ≡ (in_row acts k || (k == i - 1))) → (primary < i → active2 ≡ acts)

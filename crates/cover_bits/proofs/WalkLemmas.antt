@@ -35,12 +35,12 @@ module _ (row : List ℕ) (rest : Rest) (some : 0 < rest.word) (small : rest.wor
           let a = low.0 in omega arith
 
   -- without that bit all others are to come
-  pub without_lowest : (j : ℕ) → to_come row (record { word = bit_and rest.word (bit_not w64 (1 * 2 ^ trailing_zeros w64 rest.word % 2 ^ 64)); place = rest.place }) j
+  pub without_lowest : (j : ℕ) → to_come row (record { word = bit_and rest.word (bit_not w64 (1 * 2 ^ trailing_zeros w64 rest.word % 2 ^ 64)); place = rest.place; first = rest.first }) j
       ≡ (to_come row rest j && not (j == rest.place * 64 + trailing_zeros w64 rest.word))
   without_lowest j = by (cases_eq rest.place (j / 64))
     where
       Left : Type 0
-      Left = to_come row (record { word = bit_and rest.word (bit_not w64 (1 * 2 ^ trailing_zeros w64 rest.word % 2 ^ 64)); place = rest.place }) j
+      Left = to_come row (record { word = bit_and rest.word (bit_not w64 (1 * 2 ^ trailing_zeros w64 rest.word % 2 ^ 64)); place = rest.place; first = rest.first }) j
           ≡ (to_come row rest j && not (j == rest.place * 64 + trailing_zeros w64 rest.word))
 
       here : rest.place ≡ j / 64 → (j % 64 ≡ trailing_zeros w64 rest.word) ⊎ (j % 64 ≡ trailing_zeros w64 rest.word → ⊥) → Left

@@ -7,18 +7,15 @@ ghost use Rattle.cover_bits.specs.Parts.{in_row};
 
 use crate::sets::{add, has, remove};
 
-/// Takes an item out of the active ones. A secondary item never stands there.
+/// Takes an item out of the active ones. A secondary item never stands there, so nothing is asked.
 #[inline(always)]
-pub fn deactivate(active: &mut [u64], primary: u32, item: u32)
+pub fn deactivate(active: &mut [u64], item: u32)
     requires some { 0 < item }
-    requires room { primary ≤ 64 * length active.old }
+    requires room { item ≤ 64 * length active.old }
     ensures long { length active.new ≡ length active.old }
-    ensures removed { item ≤ primary → (k : ℕ) → in_row active.new k ≡ (in_row active.old k && not (k == item - 1)) }
-    ensures kept { primary < item → active.new ≡ active.old }
+    ensures removed { (k : ℕ) → in_row active.new k ≡ (in_row active.old k && not (k == item - 1)) }
 {
-    if item <= primary {
-        remove(active, (item - 1) as usize);
-    }
+    remove(active, (item - 1) as usize);
 }
 
 /// Puts it back among the active ones. A secondary item never stands there.

@@ -157,6 +157,37 @@ fn write_next(
     counts[depth] = without(next, left, columns, words, items) as u32;
 }
 
+/// The same where there are more items than a pass takes out: it takes more passes, each over what the one before it left.
+#[cold]
+#[inline(never)]
+fn write_many(
+    parts: &mut [Part],
+    counts: &mut [u32],
+    columns: &[u64],
+    words: usize,
+    covered: &[u32],
+    base: usize,
+)
+    requires base { base ≤ length covered.now }
+    requires columns { All (HasColumn words columns.now) covered.now }
+    requires depth { length covered.now < length counts.old }
+    requires few { (d : ℕ) → slice_index_or counts.old d 0 ≤ words }
+    requires within { (length covered.now + 1) * words ≤ length parts.old }
+    requires small { words < 2 ^ 32 }
+    requires placed { ArePlaced 0 words (bits.set_at words parts.old counts.old base) }
+    ensures { IsNextSet words base (length covered.now) columns.now (drop base covered.now)
+        parts.old parts.new counts.old counts.new }
+{
+    let mut base = base;
+    while base < covered.len() {
+        let depth = covered.len().min(base + MOST_COLUMNS);
+        let (front, _) = covered.split_at(depth);
+        let (_, items) = front.split_at(base);
+        write_next(parts, counts, columns, words, base, items);
+        base = depth;
+    }
+}
+
 /// Writes the set of the options left once these items are covered, where the one at `base` is of those left before the last of them.
 #[inline(always)]
 pub(crate) fn write_sets(
@@ -177,13 +208,11 @@ pub(crate) fn write_sets(
     ensures { IsNextSet words base (length covered.now) columns.now (drop base covered.now)
         parts.old parts.new counts.old counts.new }
 {
-    let mut base = base;
-    // Mostly once. An option with more items takes more passes, each over what the one before it left.
-    while base < covered.len() {
-        let depth = covered.len().min(base + MOST_COLUMNS);
-        let (front, _) = covered.split_at(depth);
-        let (_, items) = front.split_at(base);
+    // Mostly one pass is enough. In a loop, what the next one needs would stand in memory while the pass runs.
+    let (_, items) = covered.split_at(base);
+    if items.len() > MOST_COLUMNS {
+        write_many(parts, counts, columns, words, covered, base);
+    } else if !items.is_empty() {
         write_next(parts, counts, columns, words, base, items);
-        base = depth;
     }
 }

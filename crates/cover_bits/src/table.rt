@@ -2,7 +2,7 @@
 ghost use Rattle.std.specs.Prelude.{◌≡◌, ◌<◌, ◌≤◌, ◌+◌, ◌-◌, ◌*◌, ◌^◌, ◌&&◌, ◌||◌, ◌==◌, ◌↔◌, IsTrue, not, true, false, ℕ, List, [], ◌∷◌, ◌++◌, length, take, option_map, vec_capacity, Some};
 ghost use Rattle.std.specs.List.{position_or_len, before_first};
 ghost use Rattle.shared_words.specs.Lists as members;
-ghost use Rattle.shared_words.specs.Lists.{are_distinct};
+ghost use Rattle.shared_words.specs.Lists.{above, are_distinct};
 ghost use Rattle.cover_problem.specs.Problem.{IsProblem};
 ghost use Rattle.cover_problem.specs.Covering.{active, choice, list_of};
 ghost use Rattle.cover_bits.specs.Parts.{words_for, in_row};
@@ -118,6 +118,35 @@ impl BitTable {
     }
 }
 
+// How the options of a list come.
+impl BitTable {
+    /// The first option past one of an item's list; past 0 the first of all.
+    #[inline(always)]
+    fn option_past(&self, item: u32, option: u32) -> Option<u32>
+        requires some { 0 < item }
+        requires within { item ≤ length self.now.problem.names }
+        ensures { result ≡ above option (list_of self.now.problem self.now.covered item) }
+    {
+        let list = self.list(item);
+        if !list.gone.is_empty() {
+            return self.kept_past(item, option);
+        }
+        // In the column an option has the number below its own, so what comes from its own number on stands after it.
+        after(list.first(option))
+    }
+
+    /// The same where options are gone. The list is looked up anew: handed on, it would stand in memory, and each call would make room.
+    #[cold]
+    #[inline(never)]
+    fn kept_past(&self, item: u32, option: u32) -> Option<u32>
+        requires some { 0 < item }
+        requires within { item ≤ length self.now.problem.names }
+        ensures { result ≡ above option (list_of self.now.problem self.now.covered item) }
+    {
+        after(self.list(item).first(option))
+    }
+}
+
 // What is left now.
 impl BitTable {
     /// The last set that was written, and the items covered since. The lists of all items that aren't covered are in it.
@@ -155,23 +184,24 @@ impl BitTable {
         ensures { result ≡ choice self.now.problem self.now.covered }
     {
         // The walk of every table. But `len` would look up for each item which set its list is in, and `next_item` where it stands.
+        // Numbers count from 0 here, as those of the row do: so none is worked out twice.
         let mut rest = whole(&self.active);
-        let mut best = after(take_next(&mut rest, &self.active)).unwrap();
-        let mut least = self.len_in(left, gone, best);
-        let mut item = best;
+        let mut best = take_next(&mut rest, &self.active).unwrap();
+        let mut least = self.len_in(left, gone, best + 1);
+        let mut number = best;
         // None has fewer than no option, and of those with as few the first is asked for.
         while least > 0 {
-            let Some(next) = after(take_next(&mut rest, &self.active)) else {
-                return best;
+            let Some(next) = take_next(&mut rest, &self.active) else {
+                return best + 1;
             };
-            let len = self.len_in(left, gone, next);
+            let len = self.len_in(left, gone, next + 1);
             if len < least {
                 best = next;
                 least = len;
             }
-            item = next;
+            number = next;
         }
-        best
+        best + 1
     }
 
     /// The same where options are gone.
@@ -228,7 +258,7 @@ impl BitTable {
     {
         let depth = self.covered.len();
         self.bases[depth + 1] = self.bases[depth];
-        deactivate(&mut self.active, self.primary, item);
+        deactivate(&mut self.active, item);
         push_within(&mut self.covered, item);
     }
 
@@ -323,7 +353,7 @@ impl Table for BitTable {
     // By itself, as `choose` is.
     #[inline(never)]
     fn first_option(&self, item: u32) -> Option<u32> {
-        after(self.list(item).first(0))
+        self.option_past(item, 0)
     }
 
     fn last_option(&self, item: u32) -> Option<u32> {
@@ -335,8 +365,7 @@ impl Table for BitTable {
     fn next_option(&self, item: u32, option: u32) -> Option<u32> {
         // Where a field is read, what the whole keeps true is known: here, that the option has a number.
         let _primary = &self.primary;
-        // In the column, too, an option has the number below its own.
-        after(self.list(item).first(option))
+        self.option_past(item, option)
     }
 
     fn prev_option(&self, item: u32, option: u32) -> Option<u32> {

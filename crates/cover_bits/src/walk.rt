@@ -8,6 +8,8 @@ ghost use Rattle.cover_bits.specs.Parts.{in_row, to_come, IsFirstFrom, NoneFrom}
 pub struct Rest {
     pub word: u64,
     pub place: u32,
+    /// The number of the word's lowest bit: kept, so that it isn't worked out for each number.
+    pub first: u32,
 }
 
 /// A walk that has met nothing.
@@ -15,11 +17,13 @@ pub struct Rest {
 pub(crate) fn whole(row: &[u64]) -> Rest
     requires some { 0 < length row.now }
     ensures placed { result.place < length row.now }
+    ensures starts { result.first ≡ 64 * result.place }
     ensures all { (k : ℕ) → to_come row.now result k ≡ in_row row.now k }
 {
     Rest {
         word: row[0],
         place: 0,
+        first: 0,
     }
 }
 
@@ -27,8 +31,10 @@ pub(crate) fn whole(row: &[u64]) -> Rest
 #[inline(always)]
 fn find_word(rest: &mut Rest, row: &[u64]) -> bool
     requires placed { rest.old.place < length row.now }
+    requires starts { rest.old.first ≡ 64 * rest.old.place }
     requires small { 64 * length row.now < 2 ^ 32 }
     ensures placed { rest.new.place < length row.now }
+    ensures starts { rest.new.first ≡ 64 * rest.new.place }
     ensures same { (k : ℕ) → to_come row.now rest.new k ≡ to_come row.now rest.old k }
     ensures found { IsTrue result → 0 < rest.new.word }
     ensures fits { rest.new.word < 2 ^ 64 }
@@ -42,6 +48,7 @@ fn find_word(rest: &mut Rest, row: &[u64]) -> bool
         *rest = Rest {
             word: row[place as usize],
             place,
+            first: place * 64,
         };
     }
     true
@@ -51,8 +58,10 @@ fn find_word(rest: &mut Rest, row: &[u64]) -> bool
 #[inline(always)]
 pub(crate) fn take_next(rest: &mut Rest, row: &[u64]) -> Option<u32>
     requires placed { rest.old.place < length row.now }
+    requires starts { rest.old.first ≡ 64 * rest.old.place }
     requires small { 64 * length row.now < 2 ^ 32 }
     ensures placed { rest.new.place < length row.now }
+    ensures starts { rest.new.first ≡ 64 * rest.new.place }
     ensures first { IfSome result (λ k. IsFirstFrom (to_come row.now rest.old) 0 k) }
     ensures left { IfSome result (λ k. (j : ℕ) → to_come row.now rest.new j ≡ (to_come row.now rest.old j && not (j == k))) }
     ensures none { result ≡ None → NoneFrom (to_come row.now rest.old) 0 }
@@ -62,5 +71,5 @@ pub(crate) fn take_next(rest: &mut Rest, row: &[u64]) -> Option<u32>
     }
     let bit = rest.word.trailing_zeros();
     rest.word &= !(1u64 << bit);
-    Some(rest.place * 64 + bit)
+    Some(rest.first + bit)
 }

@@ -39,5 +39,5 @@ invariant_of-self c =
     put_fields c.self.invariant c.args.item free c.len-depth.result (c.len-depth.ensures ∙ c.self.inside.covered.ok.0)
     (set c.self.inside.bases.items (c.len-depth.result + 1) c.index.result.now)
     (ap (λ v. set c.self.inside.bases.items (c.len-depth.result + 1) v) (c.index.ensures ∙ any_default c.self.inside.bases.items c.len-depth.result c.index.result.now 0 low))
-    c.deref_mut.result.now c.deactivate.new.active c.deref_mut.ensures.value c.deactivate.ensures.long c.deactivate.ensures.removed c.deactivate.ensures.kept
+    c.deref_mut.result.now c.deactivate.new.active c.deref_mut.ensures.value c.deactivate.ensures.long c.deactivate.ensures.removed
     c.self.inside.active.len c.self.inside.active.ok.0 c.push_within.new.items.items (vec_capacity c.push_within.new.items) c.push_within.ensures.items c.push_within.ensures.room

@@ -1,6 +1,6 @@
 use Rattle.std.proofs.Common.{◌≤◌, ◌-◌, length, take, drop}
 use Rattle.cover_bits.specs.Bits.{IsNextSet}
-use Rattle.cover_bits.proofs.passes.write_sets.Given as goal
+use Rattle.cover_bits.proofs.passes.write_many.Given as goal
 
 abbrev pub invariant-loop-base : goal.invariant-loop-base
 invariant-loop-base l = record {

@@ -2,7 +2,7 @@ use Rattle.std.proofs.Common.{◌≡◌, ◌+◌, length, arith, le_refl}
 use Rattle.std.proofs.lemmas.Nat.{mul-le}
 use Rattle.cover_bits.specs.Bits.{HasColumn}
 use Rattle.cover_bits.proofs.WriteLemmas.{all_part, written_none, written_more, written_done}
-use Rattle.cover_bits.proofs.passes.write_sets.Goals as goal
+use Rattle.cover_bits.proofs.passes.write_many.Goals as goal
 
 pub loop-base-init : goal.loop-base-init
 loop-base-init c = record {

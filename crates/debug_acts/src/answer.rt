@@ -7,7 +7,7 @@ ghost use Rattle.lab_book.specs.Tiling.{tile_at};
 ghost use Rattle.debug_views.specs.Tiles.{tile_line};
 ghost use Rattle.lab_world.specs.World.{IsSeat, IsInHistory};
 ghost use Rattle.debug_acts.specs.Acts.{Plays};
-ghost use Rattle.debug_acts.specs.Answer.{reply_refusals, refusals, is_done, worker_place, worker_retracted, worker_parted, tile_lines, done_lines, TellsAct};
+ghost use Rattle.debug_acts.specs.Answer.{reply_refusals, refusals, is_done, worker_place, worker_retracted, worker_parted, tile_lines, done_lines, told_lines};
 
 use cover_problem::Table;
 use debug_language::{
@@ -163,7 +163,8 @@ pub fn ask<'p, T: Table>(
 ) -> Result<(), AllocError>
     requires seat { IsSeat book.old 0 seat.old }
     ensures acts { Plays result book.old seat.old (act.now ∷ []) book.new seat.new }
-    ensures text { TellsAct result text.old text.new book.old seat.old act.now told.now }
+    ensures text { AddsLines result text.old text.new
+        (told_lines book.old seat.old act.now told.now) }
     ensures seat { IsSeat book.new 0 seat.new }
 {
     let reply = take_turn(alloc, book, seat, 0, act)?;

@@ -1,21 +1,31 @@
--- The examples of specs/Walk.antt, Acts.antt, Answer.antt and Ends.antt, computed on the small problem: worker 0 has
--- the tile of the whole run, at its start.
-use Rattle.std.proofs.Common.{◌≡◌, ℕ, zero, suc, ◌<◌, ◌≤◌, Option, Some, None, List, [], ◌∷◌, ◌++◌, replicate, take, Result, Ok, Err, codes, refl, ap, subst, arith}
+-- The examples of specs/Lines.antt, Breakpoints.antt, Tiles.antt, Overview.antt, Acts.antt, Answer.antt, Ends.antt and Walk.antt, computed on
+-- the small problem.
+use Rattle.std.proofs.Common.{◌≡◌, Some, None, [], ◌∷◌, ◌++◌, codes, refl, ℕ, zero, suc}
+use Rattle.std.proofs.Common.{◌<◌, ◌≤◌, Option, List, replicate, take, Result, Ok, Err, ap, subst, arith}
 use Rattle.std.specs.Fmt.{digits}
 use Rattle.text_lines.specs.Writing.{line_text, text_of}
+use Rattle.cover_problem.specs.Covering.{active, remaining, choice}
+use Rattle.cover_problem.specs.Path.{taken, covered_by}
 use Rattle.cover_problem.proofs.CoverExamples.{small}
-use Rattle.x_steps.specs.declared.state.Label.{Label}
-use Rattle.x_steps.specs.declared.state.Label.TheVariants.{X1, X5}
+use Rattle.x_steps.specs.declared.state.Label.TheVariants.{X2, X5, X1}
 use Rattle.x_steps.specs.declared.state.Cursor.TheVariants as cursor
+use Rattle.x_steps.specs.StateValue.{StateValue, at, start}
+use Rattle.x_steps.specs.Steps.{covered_in}
+use Rattle.x_branches.specs.Runner.{RunnerValue, runner_at}
+use Rattle.x_texts.specs.declared.breakpoint.Break.TheVariants as breaks
+use Rattle.lab_history.specs.declared.fault.BookFault.TheVariants.{UnknownBranch}
+use Rattle.lab_book.specs.Book.{BookValue, new_book, outcome, book_step}
+use Rattle.debug_acts.specs.Lines.{state_line, book_refusal}
+use Rattle.debug_acts.specs.Breakpoints.{meets, first_met, with_break}
+use Rattle.debug_acts.specs.Overview.{runner_branch, runner_covered}
+use Rattle.debug_acts.specs.Tiles.{open_lines, place_at, BeginsAt}
+use Rattle.x_steps.specs.declared.state.Label.{Label}
 use Rattle.x_steps.specs.declared.event.Event.TheVariants as event
-use Rattle.x_steps.specs.StateValue.{at, start}
 use Rattle.x_steps.specs.Run.{steps_between}
 use Rattle.x_steps.proofs.RunLemmas.{start_fits}
 use Rattle.x_steps.proofs.BetweenLemmas.{steps_between_self}
 use Rattle.x_branches.specs.Cut.{CutPath, cut_state, path_cut}
-use Rattle.x_branches.specs.Runner.{runner_at}
 use Rattle.lab_history.specs.declared.entry.Call.TheVariants as call
-use Rattle.lab_book.specs.Book.{BookValue, new_book, outcome, book_step}
 use Rattle.lab_world.specs.Worker.{WorkerValue, HoldsTile, moved_to}
 use Rattle.lab_world.specs.declared.event.Act.{Act}
 use Rattle.lab_world.specs.declared.event.Act.TheVariants.{Back, Retract, Park, RequestStop}
@@ -23,14 +33,76 @@ use Rattle.lab_world.specs.World.{WorldValue, worker_at, turn_of}
 use Rattle.lab_world.specs.Alone.{Leads}
 use Rattle.debug_acts.specs.declared.answer.Told.TheVariants as told
 use Rattle.debug_acts.specs.Walk.{WalksFar, AreSomeSteps, steps_ahead, step_count, run_count, back_count, back_lines}
-use Rattle.debug_acts.specs.Acts.{end_acts, LeadsSome, LeadsPart, PlaysSome, Plays, PlaysShort, Walks, WalksPart}
-use Rattle.debug_acts.specs.Acts.{PlaysWalk, PlaysStep, PlaysRun, WalksBack, PlaysBack, StaysSeated}
+use Rattle.debug_acts.specs.Acts.{end_acts, LeadsSome, LeadsPart, PlaysSome, Plays, PlaysShort, Walks}
+use Rattle.debug_acts.specs.Acts.{WalksPart, PlaysWalk, PlaysStep, PlaysRun, WalksBack, PlaysBack, StaysSeated}
 use Rattle.debug_acts.specs.Answer.{told_lines}
 use Rattle.debug_acts.specs.Ends.{AreChoicesOf, close_line}
 
--- the book of the whole run
+-- the book of the whole run, of one tile that waits
 abbrev whole : BookValue
 whole = new_book small (record { lo = None; hi = None }) start
+
+-- option 4 is chosen, and option 5 is about to be tried
+abbrev at_five : StateValue
+at_five = at X5 (4 ∷ []) (cursor.At 5)
+
+-- ---- specs/Lines.antt
+
+its_line : line_text (state_line at_five) ≡ codes "at X5 5 4" ++ 10 ∷ []
+unfolding digits
+its_line = refl
+
+unknown : line_text (book_refusal UnknownBranch) ≡ codes "refused book 1 UnknownBranch" ++ 10 ∷ []
+unfolding digits
+unknown = refl
+
+-- ---- specs/Breakpoints.antt
+
+five_met : first_met small (breaks.Level 1 ∷ breaks.Option 5 ∷ []) at_five ≡ Some (breaks.Option 5)
+unfolding meets
+five_met = refl
+
+none_met : first_met small (breaks.Option 4 ∷ []) at_five ≡ None
+unfolding meets
+none_met = refl
+
+same_again : with_break (breaks.Option 4 ∷ breaks.Visit ∷ []) (breaks.Option 4) ≡ breaks.Option 4 ∷ breaks.Visit ∷ []
+same_again = refl
+
+-- ---- specs/Tiles.antt
+
+one_waits : text_of (open_lines whole.tiles) ≡ codes "branch start to end waiting" ++ 10 ∷ []
+one_waits = refl
+
+begins_there : place_at None whole.tiles ≡ Some 0
+begins_there = refl
+
+none_begins : place_at (Some (4 ∷ [])) whole.tiles ≡ None
+none_begins = refl
+
+not_there : ¬ BeginsAt (Some (4 ∷ [])) whole.tiles 0
+not_there h = let e : None ≡ Some (4 ∷ []) = h.1 in cc
+
+-- ---- specs/Overview.antt
+
+-- a worker behind the cut 4, right after its choice
+abbrev behind_four : RunnerValue
+behind_four = record {
+  problem = small;
+  branch = record { lo = Some (record { problem = small; path = 4 ∷ [] }); hi = None };
+  mark = at X5 [] (cursor.At 4);
+  position = at X2 (4 ∷ []) cursor.None;
+}
+
+its_branch : line_text (runner_branch behind_four) ≡ codes "branch 4 to end" ++ 10 ∷ []
+unfolding digits
+its_branch = refl
+
+its_covered : line_text (runner_covered behind_four) ≡ codes "covered a d f" ++ 10 ∷ []
+unfolding covered_in covered_by taken active remaining choice
+its_covered = refl
+
+-- ---- worker 0 has the tile of the whole run, at its start
 
 -- once its tile is leased
 abbrev leased : BookValue

@@ -20,8 +20,8 @@ use Rattle.debug_language.specs.declared.fault.DebugFault.TheVariants.{NoBranch,
 use Rattle.debug_language.specs.declared.words.Counted.TheVariants as counts
 use Rattle.debug_language.specs.declared.words.Standing.TheVariants as standing
 use Rattle.debug_language.specs.Replies.{standing_words}
-use Rattle.debug_views.specs.Lines.{state_line, counted, debug_refusal, runner_refusal, book_refusal}
-use Rattle.debug_views.specs.Tiles.{tile_line}
+use Rattle.debug_acts.specs.Lines.{state_line, counted, debug_refusal, runner_refusal, book_refusal}
+use Rattle.debug_acts.specs.Tiles.{tile_line}
 use Rattle.debug_acts.specs.declared.answer.Told.{Told}
 use Rattle.debug_acts.specs.declared.answer.Told.TheVariants as told
 

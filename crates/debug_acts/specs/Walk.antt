@@ -18,8 +18,8 @@ use Rattle.debug_language.specs.declared.fault.DebugFault.TheVariants.{AtEnd, At
 use Rattle.debug_language.specs.declared.words.Plain.TheVariants.{End}
 use Rattle.debug_language.specs.declared.words.Counted.TheVariants.{Moved}
 use Rattle.x_texts.specs.Words.{visit_words}
-use Rattle.debug_views.specs.Breakpoints.{first_met, steps_to_break}
-use Rattle.debug_views.specs.Lines.{plain, counted, state_line, met, debug_refusal}
+use Rattle.debug_acts.specs.Breakpoints.{first_met, steps_to_break}
+use Rattle.debug_acts.specs.Lines.{plain, counted, state_line, met, debug_refusal}
 
 -- how many steps lead from a runner on to the end of its branch
 abbrev pub steps_ahead : RunnerValue → ℕ

@@ -4,17 +4,18 @@ ghost use Rattle.std.specs.List.{slice_get};
 ghost use Rattle.shared_words.specs.Answers.{Returns};
 ghost use Rattle.text_lines.specs.Writes.{AddsLine, AddsLines};
 ghost use Rattle.lab_book.specs.Tiling.{tile_at};
-ghost use Rattle.debug_views.specs.Tiles.{tile_line};
+ghost use Rattle.debug_acts.specs.Tiles.{tile_line};
 ghost use Rattle.lab_world.specs.World.{IsSeat, IsInHistory};
 ghost use Rattle.debug_acts.specs.Acts.{Plays};
 ghost use Rattle.debug_acts.specs.Answer.{reply_refusals, refusals, is_done, worker_place, worker_retracted, worker_parted, tile_lines, done_lines, told_lines};
 
+use crate::overview::choices;
+use crate::tiles::{write_book_fault, write_tile};
 use cover_problem::Table;
 use debug_language::{
     Counted, DebugFault, Standing, write_at, write_counted, write_debug_fault, write_runner_fault,
     write_standing,
 };
-use debug_views::{choices, write_book_fault, write_tile};
 use lab_book::{Book, Entry, Reply};
 use lab_world::{Act, Worker, WorldReply, take_turn};
 use std::alloc::{AllocError, Global};

@@ -34,7 +34,7 @@ use Rattle.lab_book_laws.specs.AlikeBooks.{AreAlikeBooks}
 use Rattle.lab_book_laws.specs.AlikeCalls.{Correspond, NameSameTile, addressed, anonymous_reply, AreAlikeOutcomes}
 use Rattle.lab_book_laws.proofs.PlaceLemmas.{cut_corresponds}
 use Rattle.lab_book_laws.proofs.CallLemmas.{call_alike}
-use Rattle.debug_views.specs.Lines.{runner_refusal}
+use Rattle.debug_acts.specs.Lines.{runner_refusal}
 use Rattle.debug_acts.specs.declared.answer.Told.{Told}
 use Rattle.debug_acts.specs.declared.answer.Told.TheVariants as told
 use Rattle.debug_acts.specs.Answer.{turn_lines}

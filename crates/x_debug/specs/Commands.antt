@@ -32,9 +32,9 @@ use Rattle.debug_language.specs.declared.command.Command.{Command}
 use Rattle.debug_language.specs.Command.{CommandValue, command_value}
 use Rattle.debug_language.specs.Command as command
 use Rattle.debug_language.specs.Reader.{command_of}
-use Rattle.debug_views.specs.Breakpoints.{with_break}
-use Rattle.debug_views.specs.Lines.{plain, counted, set, debug_refusal, book_refusal}
-use Rattle.debug_views.specs.Tiles.{given_cut, place_at}
+use Rattle.debug_acts.specs.Breakpoints.{with_break}
+use Rattle.debug_acts.specs.Lines.{plain, counted, set, debug_refusal, book_refusal}
+use Rattle.debug_acts.specs.Tiles.{given_cut, place_at}
 use Rattle.debug_acts.specs.declared.answer.Told.{Told}
 use Rattle.debug_acts.specs.declared.answer.Told.TheVariants as told
 use Rattle.debug_acts.specs.Walk.{step_count, step_lines, run_count, run_lines, back_count, back_lines}

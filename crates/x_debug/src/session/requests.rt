@@ -1,15 +1,14 @@
 //! What a session asks of its worker, and of the tiles of its book, by one act.
 ghost use Rattle.std.specs.Prelude.{◌≡◌, ◌<◌, length, IfOk, IfSome, option_map};
 ghost use Rattle.lab_book.specs.Tiling.{tile_at};
-ghost use Rattle.debug_views.specs.Tiles.{given_cut, place_at};
+ghost use Rattle.debug_acts.specs.Tiles.{given_cut, place_at};
 ghost use Rattle.debug_acts.specs.Acts.{enter_act};
 ghost use Rattle.x_debug.specs.Commands.{asks, split_deed, enter_by, hold_by, put_back_by, TellsDeed, DoesDeed, FailsDeed};
 
 use crate::session::Session;
 use cover_problem::Table;
-use debug_acts::{Told, ask};
+use debug_acts::{Told, ask, place_at, write_book_fault};
 use debug_language::{DebugFault, write_debug_fault};
-use debug_views::{place_at, write_book_fault};
 use lab_book::{Book, BookFault};
 use lab_world::{Act, Target};
 use std::alloc::{AllocError, Global};

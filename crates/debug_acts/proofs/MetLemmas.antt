@@ -1,8 +1,6 @@
 -- Which breakpoint a state meets.
-use Rattle.std.proofs.Common.{◌≡◌, ℕ, suc, ◌+◌, ◌<◌, ◌≤◌, ◌==◌, Bool, true, false, not, cond, ◌||◌, List, [], ◌∷◌, length, Option, Some, None, refl, sym, ◌∙◌, ap, arith}
-use Rattle.std.specs.List.{find, list_any, position, position_or_len}
-use Rattle.std.proofs.lemmas.Bool.{eqb-true}
-use Rattle.std.proofs.lemmas.Grind.{common_steps}
+use Rattle.std.proofs.Common.{◌≡◌, ℕ, ◌<◌, ◌≤◌, ◌==◌, Bool, true, false, cond, ◌||◌, List, [], ◌∷◌, length, Option, Some, None, refl, sym, ◌∙◌, ap, arith}
+use Rattle.std.specs.List.{find, list_any}
 use Rattle.cover_problem.specs.Problem.{ProblemValue, IsProblem}
 use Rattle.x_steps.specs.declared.state.Label.{Label}
 use Rattle.x_steps.specs.declared.state.Label.TheVariants.{X2, X4, X5}
@@ -13,34 +11,13 @@ use Rattle.x_steps.specs.Steps.{Fits, is_visit, item_after}
 use Rattle.x_steps.specs.Machine.{chosen_in, chosen_item}
 use Rattle.x_texts.specs.declared.breakpoint.Break.{Break}
 use Rattle.x_texts.specs.declared.breakpoint.Break.TheVariants as at
-use Rattle.x_texts.specs.contracts.breakpoint.BreakPartialEq.TheImpl.{eq-value}
 use Rattle.x_texts.specs.Breaks.{is_same}
 use Rattle.x_branches.specs.Runner.{RunnerValue, IsRunner}
 use Rattle.x_branches.proofs.RunnerLemmas.{level_within}
 use Rattle.x_steps.proofs.StretchLemmas.{reached_fits}
 use Rattle.x_steps.proofs.ReadLemmas.{not_level}
 use Rattle.x_snapshot.proofs.BreakBack.{few}
-use Rattle.x_snapshot.proofs.BreakLemmas.{eq_is, any_same}
 use Rattle.debug_acts.specs.Breakpoints.{tries, is_about_to_cover, is_item_break, meets, first_met}
-
--- breakpoints that are the same are equal
-pub same_is : (a b : Break) → is_same a b ≡ true → a ≡ b
-same_is (at.Level m) (at.Level n) h = ap at.Level (eqb-true m n h)
-same_is (at.Option m) (at.Option n) h = ap at.Option (eqb-true m n h)
-same_is (at.Item m) (at.Item n) h = ap at.Item (eqb-true m n h)
-same_is at.Visit at.Visit h = refl
-same_is (at.Level m) (at.Option n) h = cc
-same_is (at.Level m) (at.Item n) h = cc
-same_is (at.Level m) at.Visit h = cc
-same_is (at.Option m) (at.Level n) h = cc
-same_is (at.Option m) (at.Item n) h = cc
-same_is (at.Option m) at.Visit h = cc
-same_is (at.Item m) (at.Level n) h = cc
-same_is (at.Item m) (at.Option n) h = cc
-same_is (at.Item m) at.Visit h = cc
-same_is at.Visit (at.Level n) h = cc
-same_is at.Visit (at.Option n) h = cc
-same_is at.Visit (at.Item n) h = cc
 
 -- tests that agree find the same
 pub find_alike : (t u : Break → Bool) (bs : List Break) → ((b : Break) → t b ≡ u b) → find t bs ≡ find u bs
@@ -50,126 +27,6 @@ find_alike t u (b ∷ bs) h = rw (h b, find_alike t u bs h) refl
 pub find_none : (t : Break → Bool) (bs : List Break) → ((b : Break) → t b ≡ false) → None ≡ find t bs
 find_none t [] h = refl
 find_none t (b ∷ bs) h = rw (h b) (find_none t bs h)
-
--- the one that is searched for, where it is there
-pub one_found : (o : Break) (bs : List Break) → list_any (is_same o) bs ≡ true → Some o ≡ find (is_same o) bs
-one_found o [] h = cc
-one_found o (b ∷ bs) h = by (is_same o b) refl h (one_found o bs) where
-  by : (v : Bool) → is_same o b ≡ v → (v || list_any (is_same o) bs) ≡ true → (list_any (is_same o) bs ≡ true → Some o ≡ find (is_same o) bs)
-      → Some o ≡ cond v (Some b) (find (is_same o) bs)
-  by true e h later = ap (λ x. Some x) (same_is o b e)
-  by false e h later = later h
-
-pub none_found : (o : Break) (bs : List Break) → list_any (is_same o) bs ≡ false → None ≡ find (is_same o) bs
-none_found o [] h = refl
-none_found o (b ∷ bs) h = by (is_same o b) refl h (none_found o bs) where
-  by : (v : Bool) → is_same o b ≡ v → (v || list_any (is_same o) bs) ≡ false → (list_any (is_same o) bs ≡ false → None ≡ find (is_same o) bs)
-      → None ≡ cond v (Some b) (find (is_same o) bs)
-  by true e h later = cc
-  by false e h later = later h
-
--- what a set answers that compares as the definition does
-pub set_found : (o : Break) (bs : List Break) → list_any (eq-value.it o) bs ≡ true → Some o ≡ find (is_same o) bs
-set_found o bs h = one_found o bs (sym (any_same o bs) ∙ h)
-
-pub set_not_found : (o : Break) (bs : List Break) → list_any (eq-value.it o) bs ≡ false → None ≡ find (is_same o) bs
-set_not_found o bs h = none_found o bs (sym (any_same o bs) ∙ h)
-
--- ---- the first of two
-
-place_alike : (t u : Break → Bool) (bs : List Break) → ((b : Break) → t b ≡ u b) → position_or_len t bs ≡ position_or_len u bs
-place_alike t u [] h = refl
-place_alike t u (b ∷ bs) h = rw (h b, place_alike t u bs h) refl
-
-place_most : (t : Break → Bool) (bs : List Break) → position_or_len t bs ≤ length bs
-place_most t [] = omega arith
-place_most t (b ∷ bs) = by (t b) (place_most t bs) where
-  by : (v : Bool) → position_or_len t bs ≤ length bs → cond (not v) (1 + position_or_len t bs) 0 ≤ suc (length bs)
-  by true h = omega arith
-  by false h = omega arith
-
-place_is : (o : Break) (bs : List Break) → position_or_len (eq-value.it o) bs ≡ position_or_len (is_same o) bs
-place_is o bs = place_alike (eq-value.it o) (is_same o) bs (eq_is o)
-
-module _ (o q : Break) where
-  step_one : (b : Break) (bs : List Break) (v w : Bool) → is_same o b ≡ v
-      → cond (not v) (1 + position_or_len (is_same o) bs) 0 < suc (length bs)
-      → cond (not v) (1 + position_or_len (is_same o) bs) 0 ≤ cond (not w) (1 + position_or_len (is_same q) bs) 0
-      → (position_or_len (is_same o) bs < length bs → position_or_len (is_same o) bs ≤ position_or_len (is_same q) bs → Some o ≡ find (λ b. is_same o b || is_same q b) bs)
-      → Some o ≡ cond (v || w) (Some b) (find (λ b. is_same o b || is_same q b) bs)
-  step_one b bs true w e h l later = ap (λ x. Some x) (same_is o b e)
-  step_one b bs false true e h l later = absurd (omega arith)
-  step_one b bs false false e h l later = later (omega arith) (omega arith)
-
-  one_first : (bs : List Break) → position_or_len (is_same o) bs < length bs → position_or_len (is_same o) bs ≤ position_or_len (is_same q) bs
-      → Some o ≡ find (λ b. is_same o b || is_same q b) bs
-  one_first [] h l = absurd (omega arith)
-  one_first (b ∷ bs) h l = step_one b bs (is_same o b) (is_same q b) refl h l (one_first bs)
-
-  step_other : (b : Break) (bs : List Break) (v w : Bool) → is_same q b ≡ w
-      → cond (not w) (1 + position_or_len (is_same q) bs) 0 < suc (length bs)
-      → cond (not w) (1 + position_or_len (is_same q) bs) 0 < cond (not v) (1 + position_or_len (is_same o) bs) 0
-      → (position_or_len (is_same q) bs < length bs → position_or_len (is_same q) bs < position_or_len (is_same o) bs → Some q ≡ find (λ b. is_same o b || is_same q b) bs)
-      → Some q ≡ cond (v || w) (Some b) (find (λ b. is_same o b || is_same q b) bs)
-  step_other b bs true w e h l later = absurd (omega arith)
-  step_other b bs false true e h l later = ap (λ x. Some x) (same_is q b e)
-  step_other b bs false false e h l later = later (omega arith) (omega arith)
-
-  other_first : (bs : List Break) → position_or_len (is_same q) bs < length bs → position_or_len (is_same q) bs < position_or_len (is_same o) bs
-      → Some q ≡ find (λ b. is_same o b || is_same q b) bs
-  other_first [] h l = absurd (omega arith)
-  other_first (b ∷ bs) h l = step_other b bs (is_same o b) (is_same q b) refl h l (other_first bs)
-
-  step_none : (b : Break) (bs : List Break) (v w : Bool)
-      → cond (not v) (1 + position_or_len (is_same o) bs) 0 ≡ suc (length bs)
-      → cond (not w) (1 + position_or_len (is_same q) bs) 0 ≡ suc (length bs)
-      → (position_or_len (is_same o) bs ≡ length bs → position_or_len (is_same q) bs ≡ length bs → None ≡ find (λ b. is_same o b || is_same q b) bs)
-      → None ≡ cond (v || w) (Some b) (find (λ b. is_same o b || is_same q b) bs)
-  step_none b bs true w h l later = absurd (omega arith)
-  step_none b bs false true h l later = absurd (omega arith)
-  step_none b bs false false h l later = later (omega arith) (omega arith)
-
-  neither : (bs : List Break) → position_or_len (is_same o) bs ≡ length bs → position_or_len (is_same q) bs ≡ length bs
-      → None ≡ find (λ b. is_same o b || is_same q b) bs
-  neither [] h l = refl
-  neither (b ∷ bs) h l = step_none b bs (is_same o b) (is_same q b) h l (neither bs)
-
-  -- what a set answers of the places of both
-  module _ (bs : List Break) where
-    some_place : (p : Break → Bool) (i : ℕ) → Some i ≡ position p bs → (position_or_len p bs ≡ i) × (i < length bs)
-    some_place p i e = (grind (arith, common_steps), grind (arith, common_steps))
-
-    no_place : (p : Break → Bool) → None ≡ position p bs → position_or_len p bs ≡ length bs
-    no_place p e =
-        let most : position_or_len p bs ≤ length bs = place_most p bs in
-        grind (arith, common_steps)
-
-    pub both_other : (i j : ℕ) → Some i ≡ position (eq-value.it o) bs → Some j ≡ position (eq-value.it q) bs → j < i → Some q ≡ find (λ b. is_same o b || is_same q b) bs
-    both_other i j e f l =
-        let x = some_place (eq-value.it o) i e in
-        let y = some_place (eq-value.it q) j f in
-        other_first bs (omega (arith, place_is q bs, y.0, y.1)) (omega (arith, place_is o bs, place_is q bs, x.0, y.0, l))
-
-    pub both_one : (i j : ℕ) → Some i ≡ position (eq-value.it o) bs → Some j ≡ position (eq-value.it q) bs → i ≤ j → Some o ≡ find (λ b. is_same o b || is_same q b) bs
-    both_one i j e f l =
-        let x = some_place (eq-value.it o) i e in
-        let y = some_place (eq-value.it q) j f in
-        one_first bs (omega (arith, place_is o bs, x.0, x.1)) (omega (arith, place_is o bs, place_is q bs, x.0, y.0, l))
-
-    pub only_one : (i : ℕ) → Some i ≡ position (eq-value.it o) bs → None ≡ position (eq-value.it q) bs → Some o ≡ find (λ b. is_same o b || is_same q b) bs
-    only_one i e f =
-        let x = some_place (eq-value.it o) i e in
-        let y = no_place (eq-value.it q) f in
-        one_first bs (omega (arith, place_is o bs, x.0, x.1)) (omega (arith, place_is o bs, place_is q bs, x.0, x.1, y))
-
-    pub only_other : (j : ℕ) → None ≡ position (eq-value.it o) bs → Some j ≡ position (eq-value.it q) bs → Some q ≡ find (λ b. is_same o b || is_same q b) bs
-    only_other j e f =
-        let x = no_place (eq-value.it o) e in
-        let y = some_place (eq-value.it q) j f in
-        other_first bs (omega (arith, place_is q bs, y.0, y.1)) (omega (arith, place_is o bs, place_is q bs, x, y.0, y.1))
-
-    pub not_one : None ≡ position (eq-value.it o) bs → None ≡ position (eq-value.it q) bs → None ≡ find (λ b. is_same o b || is_same q b) bs
-    not_one e f = neither bs (sym (place_is o bs) ∙ no_place (eq-value.it o) e) (sym (place_is q bs) ∙ no_place (eq-value.it q) f)
 
 -- ---- what a state meets, step by step
 

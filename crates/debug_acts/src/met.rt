@@ -12,28 +12,33 @@ use x_branches::Runner;
 use x_steps::{Cursor, Label};
 use x_texts::Break;
 
-/// A breakpoint, if it was set.
+/// Whether two breakpoints are the same.
+fn is_same(one: Break, other: Break) -> bool
+    ensures { result ≡ is_same one other }
+{
+    one == other
+}
+
+/// A breakpoint, if it was set. A search by hand has few of them: to look at each is cheaper than a hash.
 fn if_set(breaks: &IndexSet<Break>, breakpoint: Break) -> Option<Break>
     ensures { result ≡ find (is_same breakpoint) breaks.now.keys }
 {
-    if breaks.contains(&breakpoint) {
-        Some(breakpoint)
-    } else {
-        None
-    }
+    breaks
+        .as_slice()
+        .iter()
+        .copied()
+        .find(|it| is_same(breakpoint, *it))
 }
 
 /// The one of two breakpoints that was set first, of those that were set.
 fn first_set(breaks: &IndexSet<Break>, one: Break, other: Break) -> Option<Break>
     ensures { result ≡ find (λ b. is_same one b || is_same other b) breaks.now.keys }
 {
-    match (breaks.get_index_of(&one), breaks.get_index_of(&other)) {
-        // A visit at a level may meet two: the one that was set first is told.
-        (Some(i), Some(j)) => Some(if j < i { other } else { one }),
-        (Some(_), None) => Some(one),
-        (None, Some(_)) => Some(other),
-        (None, None) => None,
-    }
+    breaks
+        .as_slice()
+        .iter()
+        .copied()
+        .find(|it| is_same(one, *it) || is_same(other, *it))
 }
 
 /// Whether a breakpoint is the choice of an item.

@@ -1,6 +1,6 @@
 -- Two alike books, each with worker 0's seat, and the same runner in both or none: an act of that worker by its own lease, or of its runner, leaves
 -- them alike, and is told alike.
-use Rattle.std.proofs.Common.{◌≡◌, ℕ, ◌==◌, Bool, true, false, cond, Option, Some, None, List, [], ◌∷◌, refl, sym, ap, ◌∙◌, subst}
+use Rattle.std.proofs.Common.{◌≡◌, ℕ, ◌==◌, Bool, true, false, cond, Option, Some, None, [], ◌∷◌, refl, sym, ap, ◌∙◌, subst}
 use Rattle.std.proofs.lemmas.Bool.{false≢true}
 use Rattle.shared_words.specs.Lists.{has}
 use Rattle.cover_problem.specs.Problem.{is_same}
@@ -13,7 +13,6 @@ use Rattle.x_branches.specs.Branch.{end_of}
 use Rattle.x_branches.specs.Refusals.{most_steps, untried_in, cut_at}
 use Rattle.x_branches.specs.Runner.{RunnerValue, unposted_steps}
 use Rattle.x_branches.specs.Untried.{with_choice}
-use Rattle.lab_history.specs.declared.grant.Grant.{Grant}
 use Rattle.lab_history.specs.declared.entry.Call.{Call}
 use Rattle.lab_history.specs.declared.entry.Call.TheVariants as call
 use Rattle.lab_history.specs.declared.entry.Reply.{Reply}
@@ -61,62 +60,32 @@ AlikeTold what also t u = Alike t u × (turn_lines what t ≡ turn_lines also u)
 
 -- ---- what becomes of a worker by an answer is read of its runner, and of the answer without ids and leases
 
-record Reads (becomes : WorkerValue → Reply → Option WorkerValue) : Type 0 where
-  unread : (x : WorkerValue) (z : Reply) → becomes x z ≡ becomes x (anonymous_reply z)
-  same : (x y : WorkerValue) (z : Reply) → x.runner ≡ y.runner → runner_of (becomes x z) ≡ runner_of (becomes y z)
+abbrev Reads : (WorkerValue → Reply → Option WorkerValue) → Type 0
+Reads becomes = (x y : WorkerValue) (z : Reply) → x.runner ≡ y.runner → runner_of (becomes x z) ≡ runner_of (becomes y (anonymous_reply z))
 
 abbrev the_runner : RunnerValue → Option RunnerValue
 the_runner r = Some r
 
 end_reads : Reads after_end
-end_reads = record { unread = unread; same = same }
-  where
-    unread : (x : WorkerValue) (z : Reply) → after_end x z ≡ after_end x (anonymous_reply z)
-    unread x (reply.Leased g lo hi mark n) = refl
-    unread x _ = refl
-
-    same : (x y : WorkerValue) (z : Reply) → x.runner ≡ y.runner → runner_of (after_end x z) ≡ runner_of (after_end y z)
-    same x y reply.Done e = refl
-    same x y (reply.Leased g lo hi mark n) e = ap the_runner e
-    same x y _ e = ap the_runner e
+end_reads x y reply.Done e = refl
+end_reads x y (reply.Leased g lo hi mark n) e = ap the_runner e
+end_reads x y _ e = ap the_runner e
 
 post_reads : Reads after_post
-post_reads = record { unread = unread; same = same }
-  where
-    unread : (x : WorkerValue) (z : Reply) → after_post x z ≡ after_post x (anonymous_reply z)
-    unread x (reply.Leased g lo hi mark n) = refl
-    unread x _ = refl
-
-    same : (x y : WorkerValue) (z : Reply) → x.runner ≡ y.runner → runner_of (after_post x z) ≡ runner_of (after_post y z)
-    same x y (reply.Posted stop n) e = ap (λ (r : RunnerValue). the_runner (record r { mark = r.position })) e
-    same x y (reply.Leased g lo hi mark n) e = ap the_runner e
-    same x y _ e = ap the_runner e
+post_reads x y (reply.Posted stop n) e = ap (λ (r : RunnerValue). the_runner (record r { mark = r.position })) e
+post_reads x y (reply.Leased g lo hi mark n) e = ap the_runner e
+post_reads x y _ e = ap the_runner e
 
 retract_reads : Reads after_retract
-retract_reads = record { unread = unread; same = same }
-  where
-    unread : (x : WorkerValue) (z : Reply) → after_retract x z ≡ after_retract x (anonymous_reply z)
-    unread x (reply.Leased g lo hi mark n) = refl
-    unread x _ = refl
-
-    same : (x y : WorkerValue) (z : Reply) → x.runner ≡ y.runner → runner_of (after_retract x z) ≡ runner_of (after_retract y z)
-    same x y (reply.Retracted from to) e = ap (λ (r : RunnerValue). the_runner (record r { mark = from })) e
-    same x y (reply.Leased g lo hi mark n) e = ap the_runner e
-    same x y _ e = ap the_runner e
+retract_reads x y (reply.Retracted from to) e = ap (λ (r : RunnerValue). the_runner (record r { mark = from })) e
+retract_reads x y (reply.Leased g lo hi mark n) e = ap the_runner e
+retract_reads x y _ e = ap the_runner e
 
 split_reads : (level o : ℕ) → Reads (λ x. after_split x (cut_at x.runner level o))
-split_reads level o = record { unread = unread; same = same }
-  where
-    unread : (x : WorkerValue) (z : Reply) → after_split x (cut_at x.runner level o) z ≡ after_split x (cut_at x.runner level o) (anonymous_reply z)
-    unread x (reply.Leased g lo hi mark n) = refl
-    unread x (reply.Split id) = refl
-    unread x _ = refl
-
-    same : (x y : WorkerValue) (z : Reply) → x.runner ≡ y.runner
-        → runner_of (after_split x (cut_at x.runner level o) z) ≡ runner_of (after_split y (cut_at y.runner level o) z)
-    same x y (reply.Split id) e = ap (λ (r : RunnerValue). the_runner (record r { branch = record r.branch { hi = Some (cut_at r level o) } })) e
-    same x y (reply.Leased g lo hi mark n) e = ap the_runner e
-    same x y _ e = ap the_runner e
+split_reads level o x y (reply.Split id) e =
+    ap (λ (r : RunnerValue). the_runner (record r { branch = record r.branch { hi = Some (cut_at r level o) } })) e
+split_reads level o x y (reply.Leased g lo hi mark n) e = ap the_runner e
+split_reads level o x y _ e = ap the_runner e
 
 -- ---- the worker's own tile
 
@@ -165,8 +134,7 @@ module _ (b c : BookValue) (k : AreAlikeBooks b c) (v w : WorkerValue) (e : v.ru
           (λ j. (sym f j, sym g j)) (own_alike d)
 
       runner : runner_of (becomes v x) ≡ runner_of (becomes w y)
-      runner = ap runner_of (reads.unread v x) ∙ ap (λ (z : Reply). runner_of (becomes v z)) o.reply ∙ reads.same v w (anonymous_reply y) e
-          ∙ sym (ap runner_of (reads.unread w y))
+      runner = reads v w x e ∙ ap (λ (z : Reply). runner_of (becomes w z)) o.reply ∙ sym (reads w w y refl)
 
   here : AreAlikeSeats b (Some v) c (Some w)
   here = record { book = k; runner = ap the_runner e }
@@ -283,8 +251,4 @@ turn_alike b c (Some v) (Some w) Abandon own h i k =
     end_told b c k.book v w (same_runner v w k.runner) h i (call.Abandon v.grant) (call.Abandon w.grant) (call.Abandon v.grant) refl refl
 turn_alike b c (Some v) (Some w) Close own h i k =
     end_told b c k.book v w (same_runner v w k.runner) h i (call.Close v.grant) (call.Close w.grant) (call.Close v.grant) refl refl
-turn_alike b c (Some v) (Some w) (Lease id) own h i k = absurd (false≢true own)
-turn_alike b c (Some v) (Some w) LeaseAny own h i k = absurd (false≢true own)
-turn_alike b c (Some v) (Some w) (TakeHeld id) own h i k = absurd (false≢true own)
-turn_alike b c (Some v) (Some w) (PutBack id s) own h i k = absurd (false≢true own)
-turn_alike b c (Some v) (Some w) (RequestStop id) own h i k = absurd (false≢true own)
+turn_alike b c (Some v) (Some w) _ own h i k = absurd (false≢true own)

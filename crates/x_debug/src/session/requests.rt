@@ -3,7 +3,7 @@ ghost use Rattle.std.specs.Prelude.{◌≡◌, ◌<◌, length, IfOk, IfSome, op
 ghost use Rattle.lab_book.specs.Tiling.{tile_at};
 ghost use Rattle.debug_acts.specs.Tiles.{given_cut, place_at};
 ghost use Rattle.debug_acts.specs.Acts.{enter_act};
-ghost use Rattle.x_debug.specs.Commands.{asks, split_deed, enter_by, hold_by, put_back_by, TellsDeed, DoesDeed, FailsDeed};
+ghost use Rattle.x_debug.specs.Commands.{asks, split_deed, enter_by, hold_by, put_back_by, TellsDeed, DoesDeed};
 
 use crate::session::Session;
 use cover_problem::Table;
@@ -49,7 +49,6 @@ impl<'p, T: Table> Session<'p, T> {
     ) -> Result<(), AllocError>
         ensures reply { TellsDeed result text.old text.new (asks self.old act.now told.now) }
         ensures session { DoesDeed result self.old self.new (asks self.old act.now told.now) }
-        ensures left { FailsDeed result self.old self.new (asks self.old act.now told.now) }
     {
         ask(alloc, &mut self.book, &mut self.worker, act, told, text)
     }
@@ -74,7 +73,6 @@ impl<'p, T: Table> Session<'p, T> {
     ) -> Result<(), AllocError>
         ensures reply { TellsDeed result text.old text.new (split_deed self.old level option) }
         ensures session { DoesDeed result self.old self.new (split_deed self.old level option) }
-        ensures left { FailsDeed result self.old self.new (split_deed self.old level option) }
     {
         // Copied, since the act shortens it, and the line tells what was cut off.
         let Some(before) = self.branch()? else {
@@ -106,7 +104,6 @@ impl<'p, T: Table> Session<'p, T> {
     ) -> Result<(), AllocError>
         ensures reply { TellsDeed result text.old text.new (hold_by self.old lo.entry) }
         ensures session { DoesDeed result self.old self.new (hold_by self.old lo.entry) }
-        ensures left { FailsDeed result self.old self.new (hold_by self.old lo.entry) }
     {
         let Some(place) = self.seek(lo) else {
             return write_book_fault(text, &BookFault::UnknownBranch);
@@ -126,7 +123,6 @@ impl<'p, T: Table> Session<'p, T> {
     ) -> Result<(), AllocError>
         ensures reply { TellsDeed result text.old text.new (put_back_by self.old lo.entry state.now) }
         ensures session { DoesDeed result self.old self.new (put_back_by self.old lo.entry state.now) }
-        ensures left { FailsDeed result self.old self.new (put_back_by self.old lo.entry state.now) }
     {
         let Some(place) = self.seek(lo) else {
             return write_book_fault(text, &BookFault::UnknownBranch);
@@ -145,7 +141,6 @@ impl<'p, T: Table> Session<'p, T> {
     ) -> Result<(), AllocError>
         ensures reply { TellsDeed result text.old text.new (enter_by self.old lo.entry) }
         ensures session { DoesDeed result self.old self.new (enter_by self.old lo.entry) }
-        ensures left { FailsDeed result self.old self.new (enter_by self.old lo.entry) }
     {
         // Before the cut is looked for: a branch that is open is refused whatever cut is named.
         if self.is_open() {

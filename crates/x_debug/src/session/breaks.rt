@@ -1,7 +1,7 @@
 //! The breakpoints of a session.
-ghost use Rattle.std.specs.Prelude.{◌≡◌, true, OnErr};
+ghost use Rattle.std.specs.Prelude.{◌≡◌, true, OnOk, OnErr};
 ghost use Rattle.x_texts.specs.Breaks.{is_break};
-ghost use Rattle.x_debug.specs.Commands.{set_deed, clear_deed, TellsDeed, DoesDeed};
+ghost use Rattle.x_debug.specs.Commands.{break_deed, clear_deed, TellsDeed, done_by};
 
 use crate::session::Session;
 use cover_problem::Table;
@@ -11,14 +11,15 @@ use x_texts::Break;
 
 impl<'p, T: Table> Session<'p, T> {
     /// `break`: sets a breakpoint. Out of memory, nothing has changed.
-    pub(super) fn obey_set(
+    pub(super) fn obey_break(
         &mut self,
         breakpoint: Break,
         text: &mut Vec<u8>,
     ) -> Result<(), AllocError>
         requires { is_break self.old.book.problem breakpoint ≡ true }
-        ensures reply { TellsDeed result text.old text.new (set_deed self.old breakpoint) }
-        ensures session { DoesDeed result self.old self.new (set_deed self.old breakpoint) }
+        ensures reply { TellsDeed result text.old text.new (break_deed self.old breakpoint) }
+        ensures session { OnOk result
+            (self.new ≡ (done_by self.old (break_deed self.old breakpoint)).session) }
         ensures left { OnErr result (self.new ≡ self.old) }
     {
         // The line first: what isn't told isn't set.
@@ -30,7 +31,7 @@ impl<'p, T: Table> Session<'p, T> {
     /// `clear`: no breakpoint is left. Out of memory, nothing has changed.
     pub(super) fn obey_clear(&mut self, text: &mut Vec<u8>) -> Result<(), AllocError>
         ensures reply { TellsDeed result text.old text.new (clear_deed self.old) }
-        ensures session { DoesDeed result self.old self.new (clear_deed self.old) }
+        ensures session { OnOk result (self.new ≡ (done_by self.old (clear_deed self.old)).session) }
         ensures left { OnErr result (self.new ≡ self.old) }
     {
         // Told before they go, which needs no memory.

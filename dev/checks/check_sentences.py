@@ -24,7 +24,7 @@ from tree import ROOT
 # The crate of shared words, which stands below nearly all: no README but its own has to name it.
 COMMON = "shared_words"
 # Crates of which THEOREM.md says one thing of all calls.
-AS_ONE = {"debug_acts", "debug_language", "debug_views", "poly_cells", "text_lines", "x_texts"}
+AS_ONE = {"debug_acts", "debug_language", "poly_cells", "text_lines", "x_texts"}
 CRATES = sorted(path.name for path in (ROOT / "crates").iterdir())
 NUMBERS = "one two three four five six seven eight nine ten eleven twelve thirteen fourteen fifteen sixteen seventeen eighteen nineteen twenty"
 SPELT = {word: number for number, word in enumerate(NUMBERS.split(), 1)}

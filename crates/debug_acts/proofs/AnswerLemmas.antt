@@ -1,5 +1,5 @@
 -- What the lines of a walk are, where it went on and where it was refused.
-use Rattle.std.proofs.Common.{◌≡◌, ℕ, ◌<◌, ◌≤◌, ◌==◌, true, false, ◌⊎◌, inl, inr, Result, List, [], ◌∷◌, ◌++◌, Option, Some, IfSome, refl, sym, ◌∙◌, ap, ap₂, subst, arith, append_assoc, append-nil}
+use Rattle.std.proofs.Common.{◌≡◌, ℕ, ◌≤◌, ◌==◌, true, false, ◌⊎◌, inl, inr, Result, List, [], ◌∷◌, ◌++◌, Option, Some, IfSome, refl, sym, ◌∙◌, ap, ap₂, subst, arith, append_assoc, append-nil}
 use Rattle.std.proofs.lemmas.Bool.{ne_eqb}
 use Rattle.std.proofs.lemmas.Bool.Decides.{eqb_tells}
 use Rattle.std.specs.List.{list_all}
@@ -8,19 +8,19 @@ use Rattle.text_lines.specs.Writing.{line_text, text_of}
 use Rattle.x_steps.specs.StateValue.{StateValue}
 use Rattle.x_branches.specs.Branch.{end_of}
 use Rattle.x_branches.specs.Runner.{RunnerValue}
-use Rattle.lab_world.specs.Worker.{WorkerValue, HoldsTile}
+use Rattle.lab_world.specs.Worker.{WorkerValue}
 use Rattle.debug_language.specs.declared.fault.DebugFault.TheVariants.{AtEnd}
 use Rattle.debug_language.specs.declared.words.Plain.TheVariants.{End}
 use Rattle.x_texts.specs.declared.breakpoint.Break.{Break}
 use Rattle.x_texts.specs.Breaks.{is_break}
-use Rattle.debug_views.specs.Breakpoints.{meets, first_met}
-use Rattle.debug_views.specs.Lines.{plain, debug_refusal}
+use Rattle.debug_acts.specs.Breakpoints.{meets, first_met}
+use Rattle.debug_acts.specs.Lines.{plain, debug_refusal}
 use Rattle.debug_acts.specs.Walk.{steps_ahead, state_on, visit_lines, moved_lines, walk_lines, step_count, end_lines, step_lines, run_count, run_lines, stop_line}
 use Rattle.debug_acts.specs.Acts.{walk_acts, PlaysWalk}
-use Rattle.debug_views.proofs.LineLemmas.{one_line, more_lines}
+use Rattle.debug_acts.proofs.LineLemmas.{one_line, more_lines}
 use Rattle.debug_acts.proofs.CountLemmas.{least_second, least_within}
 use Rattle.debug_acts.proofs.ForwardLemmas.{all_gone, not_all, none_ahead, some_ahead}
-use Rattle.debug_acts.proofs.WorkLemmas.{AtWork, work, IsWork, can_walk}
+use Rattle.debug_acts.proofs.WorkLemmas.{AtWork, IsWork, can_walk}
 use Rattle.debug_acts.proofs.LeadLemmas.{LeadsTo, begun, Came, came_to, plays_all}
 use Rattle.debug_acts.proofs.RunLemmas.{found_passes, run_within}
 

@@ -1,9 +1,8 @@
 -- A walk of some steps, from where there is room for them: its acts, and the visit that it came to.
-use Rattle.std.proofs.Common.{◌≡◌, ℕ, zero, suc, ◌+◌, ◌-◌, ◌<◌, ◌≤◌, ◌⊎◌, inl, inr, Some, List, [], ◌∷◌, ◌++◌, length, replicate, map, refl, sym, ◌∙◌, ap, subst, arith, append_assoc}
+use Rattle.std.proofs.Common.{◌≡◌, ℕ, zero, suc, ◌+◌, ◌<◌, ◌≤◌, ◌⊎◌, inl, inr, Some, List, [], ◌∷◌, ◌++◌, length, replicate, map, refl, sym, ◌∙◌, ap, subst, arith, append_assoc}
 use Rattle.std.proofs.lemmas.Bool.{cases_lt, ne_eqb}
 use Rattle.std.proofs.lemmas.List.{replicate_more}
 use Rattle.text_lines.specs.Writing.{text_of}
-use Rattle.x_steps.specs.declared.event.Event.{Event}
 use Rattle.x_steps.specs.declared.machine.walk.Walk.{Walk}
 use Rattle.x_steps.specs.Run.{after, states, visits, visits_between}
 use Rattle.x_steps.specs.Walk.{last_event, visit_told, OnlyMoves}
@@ -21,7 +20,7 @@ use Rattle.lab_world.specs.Alone.{own_events}
 use Rattle.lab_world.proofs.AloneLemmas.{steps_lead}
 use Rattle.x_texts.specs.Words.{visit_words}
 use Rattle.debug_acts.specs.Walk.{WalksFar, steps_ahead, step_count, state_on, visit_lines}
-use Rattle.debug_acts.specs.Acts.{step_acts, room_acts, walk_acts, LeadsSome, LeadsPart, WalksPart}
+use Rattle.debug_acts.specs.Acts.{step_acts, room_acts, walk_acts, LeadsSome, WalksPart}
 use Rattle.debug_acts.proofs.ForwardLemmas.{to_end, on_goes_on}
 use Rattle.debug_acts.proofs.WorkLemmas.{AtWork, work, IsWork, can_walk}
 use Rattle.debug_acts.proofs.LeadLemmas.{LeadsTo, then_to, one_end, begun, with_room, room_leads, room_worker, step_is, next_acts, walk_more, walk_part, part_more, all_part}

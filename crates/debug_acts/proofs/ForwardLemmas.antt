@@ -1,5 +1,5 @@
 -- Steps onward from a state: where they lead, what is left ahead, and which visits lie between.
-use Rattle.std.proofs.Common.{◌≡◌, ℕ, suc, ◌+◌, ◌-◌, ◌<◌, ◌≤◌, ◌==◌, ◌⊎◌, inl, inr, Bool, true, false, IsTrue, ◌↔◌, [], ◌++◌, map, refl, sym, ◌∙◌, ap, arith, eq-eqb}
+use Rattle.std.proofs.Common.{◌≡◌, ℕ, ◌+◌, ◌-◌, ◌<◌, ◌≤◌, ◌==◌, ◌⊎◌, inl, inr, Bool, true, false, IsTrue, ◌↔◌, [], ◌++◌, map, refl, sym, ◌∙◌, ap, arith, eq-eqb}
 use Rattle.std.proofs.lemmas.Bool.{cases_lt, ne_eqb, false≢true}
 use Rattle.std.proofs.lemmas.List.{map-append}
 use Rattle.text_lines.specs.Writing.{text_of}
@@ -16,7 +16,7 @@ use Rattle.x_branches.specs.Branch.{end_of}
 use Rattle.x_branches.specs.Runner.{RunnerValue}
 use Rattle.x_texts.specs.Words.{visit_words}
 use Rattle.debug_acts.specs.Walk.{steps_ahead, state_on, visit_lines}
-use Rattle.debug_views.proofs.LineLemmas.{more_lines}
+use Rattle.debug_acts.proofs.LineLemmas.{more_lines}
 
 -- a runner that can go on: its position and its branch's end are states of the run, and it doesn't stand after its end
 pub record CanWalk (r : RunnerValue) : Type 0 where

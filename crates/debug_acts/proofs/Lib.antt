@@ -1,3 +1,7 @@
+pub mod MetLemmas
+pub mod PlaceLemmas
+pub mod ItemLemmas
+pub mod LineLemmas
 pub mod CountLemmas
 pub mod ForwardLemmas
 pub mod CallLemmas

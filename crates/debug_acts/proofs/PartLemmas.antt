@@ -10,7 +10,7 @@ use Rattle.lab_world.specs.declared.event.Act.{Act}
 use Rattle.lab_world.specs.declared.event.WorldReply.{WorldReply}
 use Rattle.lab_world.specs.Worker.{WorkerValue}
 use Rattle.lab_world.specs.World.{Turned, turn_of}
-use Rattle.debug_views.specs.Tiles.{tile_line}
+use Rattle.debug_acts.specs.Tiles.{tile_line}
 use Rattle.debug_acts.specs.Answer.{refusals, is_done, lines_or, tile_lines, done_lines, told_lines}
 use Rattle.debug_acts.specs.declared.answer.Told.{Told}
 

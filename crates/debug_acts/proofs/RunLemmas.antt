@@ -15,7 +15,7 @@ use Rattle.x_steps.proofs.BetweenLemmas.{length-states}
 use Rattle.x_branches.specs.Branch.{end_of}
 use Rattle.x_branches.specs.Runner.{RunnerValue}
 use Rattle.x_texts.specs.declared.breakpoint.Break.{Break}
-use Rattle.debug_views.specs.Breakpoints.{first_met, meets_one, steps_to_break}
+use Rattle.debug_acts.specs.Breakpoints.{first_met, meets_one, steps_to_break}
 use Rattle.debug_acts.specs.Walk.{AreSomeSteps, steps_ahead, state_on, smaller_of, step_count, stride, run_count}
 use Rattle.debug_acts.specs.Acts.{walk_acts, Walks, WalksPart}
 use Rattle.debug_acts.proofs.CountLemmas.{least_first, least_within}

@@ -1,19 +1,17 @@
 -- A walk that has gone some steps: what it made of a book, a worker and a text, and how it goes on and ends.
-use Rattle.std.proofs.Common.{◌≡◌, ℕ, suc, ◌+◌, ◌-◌, ◌*◌, ◌^◌, ◌<◌, ◌≤◌, Some, List, ◌++◌, length, refl, sym, ◌∙◌, ap, ap₂, subst, arith, append_assoc, append-nil, le_refl}
+use Rattle.std.proofs.Common.{◌≡◌, ℕ, ◌+◌, ◌-◌, ◌^◌, ◌<◌, ◌≤◌, Some, List, ◌++◌, length, refl, sym, ◌∙◌, ap, ap₂, subst, arith, append_assoc, append-nil}
 use Rattle.text_lines.specs.Writing.{text_of}
 use Rattle.x_steps.specs.Run.{after}
 use Rattle.x_branches.specs.Branch.{end_of}
-use Rattle.x_branches.specs.Runner.{RunnerValue, IsRunner, unposted_steps}
-use Rattle.lab_book.specs.Tiling.{IsTiling}
-use Rattle.lab_book.specs.Book.{BookValue}
-use Rattle.lab_world.specs.Worker.{WorkerValue, HoldsTile}
+use Rattle.x_branches.specs.Runner.{RunnerValue, unposted_steps}
+use Rattle.lab_world.specs.Worker.{WorkerValue}
 use Rattle.lab_world.specs.World.{IsSeat}
 use Rattle.debug_acts.specs.Walk.{AreSomeSteps, steps_ahead, state_on, visit_lines, visits_on, step_count}
-use Rattle.debug_acts.specs.Acts.{walk_acts, Walks, WalksPart}
+use Rattle.debug_acts.specs.Acts.{Walks, WalksPart}
 use Rattle.debug_acts.proofs.CountLemmas.{least_second, least_within, least_first, least_both}
 use Rattle.debug_acts.proofs.ForwardLemmas.{all_gone, not_all, no_lines, lines_join}
-use Rattle.debug_acts.proofs.WorkLemmas.{AtWork, work, IsWork, can_walk}
-use Rattle.debug_acts.proofs.LeadLemmas.{LeadsTo, begun, spent, Came, left_ahead, came_to, walk_join, walk_part}
+use Rattle.debug_acts.proofs.WorkLemmas.{AtWork, IsWork, can_walk}
+use Rattle.debug_acts.proofs.LeadLemmas.{Came, left_ahead, came_to, walk_join, walk_part}
 
 -- so many steps were gone of a walk, and their visits are written
 pub record Walked (u : AtWork) (n : ℕ) (v : AtWork) (old new : List ℕ) : Type 0 where

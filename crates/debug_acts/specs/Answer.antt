@@ -2,12 +2,10 @@
 --
 -- Example: at the start of the small problem's new book a retract is refused as NothingToRetract; once the tile is held its line ends in `held`.
 -- proofs/ActExamples.antt computes it.
-use Rattle.std.specs.Prelude.{ℕ, Bool, true, false, Option, Some, None, List, [], ◌∷◌, Result}
-use Rattle.std.specs.Global.{Vec}
+use Rattle.std.specs.Prelude.{ℕ, Bool, true, false, Option, Some, None, List, [], ◌∷◌}
 use Rattle.std.specs.List.{slice_get}
 use Rattle.x_branches.specs.declared.branch.Branch.{Branch}
 use Rattle.x_branches.specs.Runner.{RunnerValue, unposted_steps}
-use Rattle.text_lines.specs.Writes.{AddsLines}
 use Rattle.lab_history.specs.declared.entry.Entry.{Entry}
 use Rattle.lab_history.specs.declared.entry.Reply.{Reply}
 use Rattle.lab_history.specs.declared.entry.Reply.TheVariants as reply
@@ -22,8 +20,8 @@ use Rattle.debug_language.specs.declared.fault.DebugFault.TheVariants.{NoBranch,
 use Rattle.debug_language.specs.declared.words.Counted.TheVariants as counts
 use Rattle.debug_language.specs.declared.words.Standing.TheVariants as standing
 use Rattle.debug_language.specs.Replies.{standing_words}
-use Rattle.debug_views.specs.Lines.{state_line, counted, debug_refusal, runner_refusal, book_refusal}
-use Rattle.debug_views.specs.Tiles.{tile_line}
+use Rattle.debug_acts.specs.Lines.{state_line, counted, debug_refusal, runner_refusal, book_refusal}
+use Rattle.debug_acts.specs.Tiles.{tile_line}
 use Rattle.debug_acts.specs.declared.answer.Told.{Told}
 use Rattle.debug_acts.specs.declared.answer.Told.TheVariants as told
 
@@ -103,7 +101,3 @@ turn_lines what t = lines_or (refusals t.book t.reply) (done_lines what t.book t
 -- what worker 0's act is answered on a book and a seat
 abbrev pub told_lines : BookValue → Option WorkerValue → Act → Told → List (List (List ℕ))
 told_lines b x a what = turn_lines what (turn_of b x 0 a)
-
--- unless a call has an error, it writes what worker 0's act is answered
-abbrev pub TellsAct : {X E : Type 0} → Result X E → Vec ℕ → Vec ℕ → BookValue → Option WorkerValue → Act → Told → Type 0
-TellsAct result old new b x a what = AddsLines result old new (told_lines b x a what)

@@ -14,7 +14,7 @@ use Rattle.lab_book.specs.Book.{cut_path}
 use Rattle.lab_world.specs.Worker.{WorkerValue}
 use Rattle.debug_language.specs.declared.words.Plain.TheVariants.{Closed}
 use Rattle.debug_language.specs.Replies.{saved_text}
-use Rattle.debug_views.specs.Lines.{plain, book_refusal}
+use Rattle.debug_acts.specs.Lines.{plain, book_refusal}
 use Rattle.debug_acts.specs.Acts.{is_ended}
 
 -- where the search stands, as a snapshot

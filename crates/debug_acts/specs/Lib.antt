@@ -1,3 +1,7 @@
+pub mod Lines
+pub mod Breakpoints
+pub mod Overview
+pub mod Tiles
 pub mod Walk
 pub mod Acts
 pub mod Answer

@@ -3,7 +3,6 @@
 --
 -- Example: at its mark a worker is refused a step back, `refused debug 3 AtStart`. proofs/ActExamples.antt computes it.
 use Rattle.std.specs.Prelude.{ℕ, ◌≤◌, ◌<◌, ◌≡◌, ◌-◌, ◌==◌, nat_lt, if◌then◌else◌, List, [], ◌∷◌, ◌++◌, map, Option, Some, None}
-use Rattle.std.specs.Global.{Vec}
 use Rattle.cover_problem.specs.Problem.{ProblemValue}
 use Rattle.x_steps.specs.StateValue.{StateValue}
 use Rattle.x_steps.specs.declared.event.Event.{Event}
@@ -19,9 +18,8 @@ use Rattle.debug_language.specs.declared.fault.DebugFault.TheVariants.{AtEnd, At
 use Rattle.debug_language.specs.declared.words.Plain.TheVariants.{End}
 use Rattle.debug_language.specs.declared.words.Counted.TheVariants.{Moved}
 use Rattle.x_texts.specs.Words.{visit_words}
-use Rattle.text_lines.specs.Writes.{WritesLines}
-use Rattle.debug_views.specs.Breakpoints.{first_met, steps_to_break}
-use Rattle.debug_views.specs.Lines.{plain, counted, state_line, met, debug_refusal}
+use Rattle.debug_acts.specs.Breakpoints.{first_met, steps_to_break}
+use Rattle.debug_acts.specs.Lines.{plain, counted, state_line, met, debug_refusal}
 
 -- how many steps lead from a runner on to the end of its branch
 abbrev pub steps_ahead : RunnerValue → ℕ
@@ -59,10 +57,6 @@ state_on r n = after r.problem n r.position
 -- the lines of the visits of its next n steps
 abbrev pub visits_on : RunnerValue → ℕ → List (List (List ℕ))
 visits_on r n = visit_lines r.problem r.position (state_on r n)
-
--- and a text goes on with them
-abbrev pub WritesVisits : Vec ℕ → Vec ℕ → RunnerValue → ℕ → Type 0
-WritesVisits old new r n = WritesLines old new (visits_on r n)
 
 -- after so many steps: the visits, how many steps there were, and where the search stands
 abbrev pub walk_lines : RunnerValue → ℕ → List (List (List ℕ))

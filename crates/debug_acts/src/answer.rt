@@ -4,17 +4,18 @@ ghost use Rattle.std.specs.List.{slice_get};
 ghost use Rattle.shared_words.specs.Answers.{Returns};
 ghost use Rattle.text_lines.specs.Writes.{AddsLine, AddsLines};
 ghost use Rattle.lab_book.specs.Tiling.{tile_at};
-ghost use Rattle.debug_views.specs.Tiles.{tile_line};
+ghost use Rattle.debug_acts.specs.Tiles.{tile_line};
 ghost use Rattle.lab_world.specs.World.{IsSeat, IsInHistory};
 ghost use Rattle.debug_acts.specs.Acts.{Plays};
-ghost use Rattle.debug_acts.specs.Answer.{reply_refusals, refusals, is_done, worker_place, worker_retracted, worker_parted, tile_lines, done_lines, TellsAct};
+ghost use Rattle.debug_acts.specs.Answer.{reply_refusals, refusals, is_done, worker_place, worker_retracted, worker_parted, tile_lines, done_lines, told_lines};
 
+use crate::overview::choices;
+use crate::tiles::{write_book_fault, write_tile};
 use cover_problem::Table;
 use debug_language::{
     Counted, DebugFault, Standing, write_at, write_counted, write_debug_fault, write_runner_fault,
     write_standing,
 };
-use debug_views::{choices, write_book_fault, write_tile};
 use lab_book::{Book, Entry, Reply};
 use lab_world::{Act, Worker, WorldReply, take_turn};
 use std::alloc::{AllocError, Global};
@@ -163,7 +164,8 @@ pub fn ask<'p, T: Table>(
 ) -> Result<(), AllocError>
     requires seat { IsSeat book.old 0 seat.old }
     ensures acts { Plays result book.old seat.old (act.now ∷ []) book.new seat.new }
-    ensures text { TellsAct result text.old text.new book.old seat.old act.now told.now }
+    ensures text { AddsLines result text.old text.new
+        (told_lines book.old seat.old act.now told.now) }
     ensures seat { IsSeat book.new 0 seat.new }
 {
     let reply = take_turn(alloc, book, seat, 0, act)?;

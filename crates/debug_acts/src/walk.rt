@@ -3,9 +3,9 @@ ghost use Rattle.std.specs.Prelude.{◌≡◌, ◌<◌, Some, IfOk, OnErr};
 ghost use Rattle.lab_book.specs.Book.{BookValue};
 ghost use Rattle.lab_world.specs.Worker.{HoldsTile};
 ghost use Rattle.lab_world.specs.World.{IsSeat};
-ghost use Rattle.debug_acts.specs.Walk.{WalksFar, AreSomeSteps, told_visit, WritesVisits, moved_lines, steps_ahead, step_count};
+ghost use Rattle.debug_acts.specs.Walk.{WalksFar, AreSomeSteps, told_visit, visits_on, moved_lines, steps_ahead, step_count};
 ghost use Rattle.debug_acts.specs.Acts.{Walks, WalksPart};
-ghost use Rattle.text_lines.specs.Writes.{AddsLines};
+ghost use Rattle.text_lines.specs.Writes.{AddsLines, WritesLines};
 
 mod backward;
 mod breakpoint;
@@ -70,7 +70,7 @@ pub(crate) fn walk_on<'p, T: Table>(
     requires some { 0 < most }
     ensures count { IfOk result (λ n. AreSomeSteps n (step_count worker.old.runner most)) }
     ensures made { IfOk result (λ n. Walks book.old worker.old n book.new worker.new) }
-    ensures text { IfOk result (λ n. WritesVisits text.old text.new worker.old.runner n) }
+    ensures text { IfOk result (λ n. WritesLines text.old text.new (visits_on worker.old.runner n)) }
     ensures left { OnErr result (WalksPart book.old worker.old (step_count worker.old.runner most) book.new worker.new) }
     ensures seat { IsSeat book.new worker.old.grant.worker (Some worker.new) }
 {

@@ -1,19 +1,16 @@
 -- Two alike books, each with worker 0's seat, and the same runner in both or none: an act of that worker by its own lease, or of its runner, leaves
 -- them alike, and is told alike.
-use Rattle.std.proofs.Common.{◌≡◌, ℕ, ◌==◌, Bool, true, false, cond, Option, Some, None, List, [], ◌∷◌, refl, sym, ap, ◌∙◌, subst}
+use Rattle.std.proofs.Common.{◌≡◌, ℕ, ◌==◌, Bool, true, false, cond, Option, Some, None, [], ◌∷◌, refl, sym, ap, ◌∙◌, subst}
 use Rattle.std.proofs.lemmas.Bool.{false≢true}
 use Rattle.shared_words.specs.Lists.{has}
 use Rattle.cover_problem.specs.Problem.{is_same}
-use Rattle.x_steps.specs.Steps.{next, event_of}
+use Rattle.x_steps.specs.Steps.{next}
 use Rattle.x_steps.specs.Before.{prev}
-use Rattle.x_steps.specs.declared.event.Event.TheVariants as event
 use Rattle.x_branches.specs.declared.branch.Branch.{Branch}
-use Rattle.x_branches.specs.declared.fault.RunnerFault.TheVariants.{AtBranchEnd, AtMark, StretchFull, NotAtMark}
 use Rattle.x_branches.specs.Branch.{end_of}
 use Rattle.x_branches.specs.Refusals.{most_steps, untried_in, cut_at}
 use Rattle.x_branches.specs.Runner.{RunnerValue, unposted_steps}
 use Rattle.x_branches.specs.Untried.{with_choice}
-use Rattle.lab_history.specs.declared.grant.Grant.{Grant}
 use Rattle.lab_history.specs.declared.entry.Call.{Call}
 use Rattle.lab_history.specs.declared.entry.Call.TheVariants as call
 use Rattle.lab_history.specs.declared.entry.Reply.{Reply}
@@ -26,15 +23,14 @@ use Rattle.lab_book.specs.Book.{BookValue, outcome, book_step}
 use Rattle.lab_world.specs.declared.event.Act.{Act}
 use Rattle.lab_world.specs.declared.event.Act.TheVariants.{Step, Back, Lease, LeaseAny, TakeHeld, Post, Split, Retract, Park, Abandon}
 use Rattle.lab_world.specs.declared.event.Act.TheVariants.{Close, PutBack, RequestStop}
-use Rattle.lab_world.specs.declared.event.WorldReply.TheVariants as world
-use Rattle.lab_world.specs.Worker.{WorkerValue, moved_to, unposted, split_call, after_post, after_split, after_retract, after_end}
-use Rattle.lab_world.specs.World.{Turn, turn_of, stays, called, stepped, stepped_back, cut_refusal}
+use Rattle.lab_world.specs.Worker.{WorkerValue, unposted, split_call, after_post, after_split, after_retract, after_end}
+use Rattle.lab_world.specs.World.{Turn, turn_of, called, stepped, stepped_back, cut_refusal}
 use Rattle.lab_world.proofs.HoldLemmas.{own_lease}
 use Rattle.lab_book_laws.specs.AlikeBooks.{AreAlikeBooks}
 use Rattle.lab_book_laws.specs.AlikeCalls.{Correspond, NameSameTile, addressed, anonymous_reply, AreAlikeOutcomes}
 use Rattle.lab_book_laws.proofs.PlaceLemmas.{cut_corresponds}
 use Rattle.lab_book_laws.proofs.CallLemmas.{call_alike}
-use Rattle.debug_views.specs.Lines.{runner_refusal}
+use Rattle.debug_acts.specs.Lines.{runner_refusal}
 use Rattle.debug_acts.specs.declared.answer.Told.{Told}
 use Rattle.debug_acts.specs.declared.answer.Told.TheVariants as told
 use Rattle.debug_acts.specs.Answer.{turn_lines}
@@ -61,62 +57,40 @@ AlikeTold what also t u = Alike t u × (turn_lines what t ≡ turn_lines also u)
 
 -- ---- what becomes of a worker by an answer is read of its runner, and of the answer without ids and leases
 
-record Reads (becomes : WorkerValue → Reply → Option WorkerValue) : Type 0 where
-  unread : (x : WorkerValue) (z : Reply) → becomes x z ≡ becomes x (anonymous_reply z)
-  same : (x y : WorkerValue) (z : Reply) → x.runner ≡ y.runner → runner_of (becomes x z) ≡ runner_of (becomes y z)
+abbrev Reads : (WorkerValue → Reply → Option WorkerValue) → Type 0
+Reads becomes = (x y : WorkerValue) (z : Reply) → x.runner ≡ y.runner → runner_of (becomes x z) ≡ runner_of (becomes y (anonymous_reply z))
 
 abbrev the_runner : RunnerValue → Option RunnerValue
 the_runner r = Some r
 
 end_reads : Reads after_end
-end_reads = record { unread = unread; same = same }
-  where
-    unread : (x : WorkerValue) (z : Reply) → after_end x z ≡ after_end x (anonymous_reply z)
-    unread x (reply.Leased g lo hi mark n) = refl
-    unread x _ = refl
-
-    same : (x y : WorkerValue) (z : Reply) → x.runner ≡ y.runner → runner_of (after_end x z) ≡ runner_of (after_end y z)
-    same x y reply.Done e = refl
-    same x y (reply.Leased g lo hi mark n) e = ap the_runner e
-    same x y _ e = ap the_runner e
+end_reads x y reply.Done e = refl
+end_reads x y (reply.Leased g lo hi mark n) e = ap the_runner e
+end_reads x y _ e = ap the_runner e
 
 post_reads : Reads after_post
-post_reads = record { unread = unread; same = same }
-  where
-    unread : (x : WorkerValue) (z : Reply) → after_post x z ≡ after_post x (anonymous_reply z)
-    unread x (reply.Leased g lo hi mark n) = refl
-    unread x _ = refl
-
-    same : (x y : WorkerValue) (z : Reply) → x.runner ≡ y.runner → runner_of (after_post x z) ≡ runner_of (after_post y z)
-    same x y (reply.Posted stop n) e = ap (λ (r : RunnerValue). the_runner (record r { mark = r.position })) e
-    same x y (reply.Leased g lo hi mark n) e = ap the_runner e
-    same x y _ e = ap the_runner e
+post_reads x y (reply.Posted stop n) e = ap (λ (r : RunnerValue). the_runner (record r { mark = r.position })) e
+post_reads x y (reply.Leased g lo hi mark n) e = ap the_runner e
+post_reads x y _ e = ap the_runner e
 
 retract_reads : Reads after_retract
-retract_reads = record { unread = unread; same = same }
-  where
-    unread : (x : WorkerValue) (z : Reply) → after_retract x z ≡ after_retract x (anonymous_reply z)
-    unread x (reply.Leased g lo hi mark n) = refl
-    unread x _ = refl
-
-    same : (x y : WorkerValue) (z : Reply) → x.runner ≡ y.runner → runner_of (after_retract x z) ≡ runner_of (after_retract y z)
-    same x y (reply.Retracted from to) e = ap (λ (r : RunnerValue). the_runner (record r { mark = from })) e
-    same x y (reply.Leased g lo hi mark n) e = ap the_runner e
-    same x y _ e = ap the_runner e
+retract_reads x y (reply.Retracted from to) e = ap (λ (r : RunnerValue). the_runner (record r { mark = from })) e
+retract_reads x y (reply.Leased g lo hi mark n) e = ap the_runner e
+retract_reads x y _ e = ap the_runner e
 
 split_reads : (level o : ℕ) → Reads (λ x. after_split x (cut_at x.runner level o))
-split_reads level o = record { unread = unread; same = same }
-  where
-    unread : (x : WorkerValue) (z : Reply) → after_split x (cut_at x.runner level o) z ≡ after_split x (cut_at x.runner level o) (anonymous_reply z)
-    unread x (reply.Leased g lo hi mark n) = refl
-    unread x (reply.Split id) = refl
-    unread x _ = refl
+split_reads level o x y (reply.Split id) e =
+    ap (λ (r : RunnerValue). the_runner (record r { branch = record r.branch { hi = Some (cut_at r level o) } })) e
+split_reads level o x y (reply.Leased g lo hi mark n) e = ap the_runner e
+split_reads level o x y _ e = ap the_runner e
 
-    same : (x y : WorkerValue) (z : Reply) → x.runner ≡ y.runner
-        → runner_of (after_split x (cut_at x.runner level o) z) ≡ runner_of (after_split y (cut_at y.runner level o) z)
-    same x y (reply.Split id) e = ap (λ (r : RunnerValue). the_runner (record r { branch = record r.branch { hi = Some (cut_at r level o) } })) e
-    same x y (reply.Leased g lo hi mark n) e = ap the_runner e
-    same x y _ e = ap the_runner e
+-- two turns of which the same test decides
+both_ways : (P : Turn → Turn → Type 0) (c d : Bool) → c ≡ d → (t u v w : Turn) → P t v → P u w → P (cond c t u) (cond d v w)
+both_ways P c d e t u v w p q = subst (λ (x : Bool). P (cond c t u) (cond x v w)) e (by c)
+  where
+    by : (x : Bool) → P (cond x t u) (cond x v w)
+    by true = p
+    by false = q
 
 -- ---- the worker's own tile
 
@@ -165,8 +139,7 @@ module _ (b c : BookValue) (k : AreAlikeBooks b c) (v w : WorkerValue) (e : v.ru
           (λ j. (sym f j, sym g j)) (own_alike d)
 
       runner : runner_of (becomes v x) ≡ runner_of (becomes w y)
-      runner = ap runner_of (reads.unread v x) ∙ ap (λ (z : Reply). runner_of (becomes v z)) o.reply ∙ reads.same v w (anonymous_reply y) e
-          ∙ sym (ap runner_of (reads.unread w y))
+      runner = reads v w x e ∙ ap (λ (z : Reply). runner_of (becomes w z)) o.reply ∙ sym (reads w w y refl)
 
   here : AreAlikeSeats b (Some v) c (Some w)
   here = record { book = k; runner = ap the_runner e }
@@ -175,35 +148,14 @@ module _ (b c : BookValue) (k : AreAlikeBooks b c) (v w : WorkerValue) (e : v.ru
 
   step_told : Alike (stepped b v) (stepped c w)
   step_told =
-      subst (λ (t : Bool × Bool). Alike (stepped b v) (way c w t.0 t.1)) (λ j. (same_state (e j).position (end_of (e j).branch.hi), unposted_steps (e j) == most_steps))
-      (by (same_state v.runner.position (end_of v.runner.branch.hi)) (unposted_steps v.runner == most_steps))
-    where
-      way : BookValue → WorkerValue → Bool → Bool → Turn
-      way d z t q = cond t (stays d (Some z) (world.Runner AtBranchEnd)) (cond q (stays d (Some z) (world.Runner StretchFull)) (record {
-        reply = world.Event (event_of z.runner.problem z.runner.position);
-        book = d;
-        worker = Some (moved_to z (next z.runner.problem z.runner.position));
-      }))
-
-      by : (t q : Bool) → Alike (way b v t q) (way c w t q)
-      by true q = here
-      by false true = here
-      by false false = record { book = k; runner = ap (λ (r : RunnerValue). the_runner (record r { position = next r.problem r.position })) e }
+      both_ways Alike _ _ (λ j. same_state (e j).position (end_of (e j).branch.hi)) _ _ _ _ here
+      (both_ways Alike _ _ (λ j. unposted_steps (e j) == most_steps) _ _ _ _ here
+      (record { book = k; runner = ap (λ (r : RunnerValue). the_runner (record r { position = next r.problem r.position })) e }))
 
   back_told : Alike (stepped_back b v) (stepped_back c w)
   back_told =
-      subst (λ (t : Bool). Alike (stepped_back b v) (way c w t)) (λ j. same_state (e j).position (e j).mark) (by (same_state v.runner.position v.runner.mark))
-    where
-      way : BookValue → WorkerValue → Bool → Turn
-      way d z t = cond t (stays d (Some z) (world.Runner AtMark)) (record {
-        reply = world.Event event.Moved;
-        book = d;
-        worker = Some (moved_to z (prev z.runner.problem z.runner.position));
-      })
-
-      by : (t : Bool) → Alike (way b v t) (way c w t)
-      by true = here
-      by false = record { book = k; runner = ap (λ (r : RunnerValue). the_runner (record r { position = prev r.problem r.position })) e }
+      both_ways Alike _ _ (λ j. same_state (e j).position (e j).mark) _ _ _ _ here
+      (record { book = k; runner = ap (λ (r : RunnerValue). the_runner (record r { position = prev r.problem r.position })) e })
 
   post_told : Alike (turn_of b (Some v) 0 Post) (turn_of c (Some w) 0 Post)
   unfolding turn_of
@@ -219,33 +171,21 @@ module _ (b c : BookValue) (k : AreAlikeBooks b c) (v w : WorkerValue) (e : v.ru
       (turn_of c (Some w) 0 (Split level o))
   unfolding turn_of
   split_told level o =
-      subst (λ (t : Bool × Branch). AlikeTold (told.Parted v.runner.branch) (told.Parted t.1) (way b v (has (untried_in v.runner level) o)) (way c w t.0))
-      (λ j. (has (untried_in (e j) level) o, (e j).branch)) (by (has (untried_in v.runner level) o))
-    where
-      way : BookValue → WorkerValue → Bool → Turn
-      way d z t = cond t
-          (called d z.grant.worker (split_call z (with_choice z.runner.position level o)) (after_split z (cut_at z.runner level o)))
-          (stays d (Some z) (world.Runner (cut_refusal z.runner level o)))
-
-      by : (t : Bool) → AlikeTold (told.Parted v.runner.branch) (told.Parted v.runner.branch) (way b v t) (way c w t)
-      by true =
-          own_called (split_call v (with_choice v.runner.position level o)) (split_call w (with_choice w.runner.position level o))
-          (split_call v (with_choice v.runner.position level o)) refl (λ j. call.Split w.grant (with_choice (sym e j).position level o) true)
-          (λ x. after_split x (cut_at x.runner level o)) (split_reads level o) (told.Parted v.runner.branch) tt
-      by false = (here, ap (λ (r : RunnerValue). runner_refusal (cut_refusal r level o) ∷ []) e)
+      both_ways (AlikeTold (told.Parted v.runner.branch) (told.Parted w.runner.branch)) _ _ (λ j. has (untried_in (e j) level) o) _ _ _ _
+      (subst (λ (t : Branch). AlikeTold (told.Parted v.runner.branch) (told.Parted t)
+      (called b v.grant.worker (split_call v (with_choice v.runner.position level o)) (after_split v (cut_at v.runner level o)))
+      (called c w.grant.worker (split_call w (with_choice w.runner.position level o)) (after_split w (cut_at w.runner level o)))) (λ j. (e j).branch)
+      (own_called (split_call v (with_choice v.runner.position level o)) (split_call w (with_choice w.runner.position level o))
+      (split_call v (with_choice v.runner.position level o)) refl (λ j. call.Split w.grant (with_choice (sym e j).position level o) true)
+      (λ x. after_split x (cut_at x.runner level o)) (split_reads level o) (told.Parted v.runner.branch) tt))
+      (here, ap (λ (r : RunnerValue). runner_refusal (cut_refusal r level o) ∷ []) e)
 
   pub retract_told : AlikeTold told.Retracted told.Retracted (turn_of b (Some v) 0 Retract) (turn_of c (Some w) 0 Retract)
   unfolding turn_of
   retract_told =
-      subst (λ (t : Bool). AlikeTold told.Retracted told.Retracted (way b v (unposted_steps v.runner == 0)) (way c w t)) (λ j. unposted_steps (e j) == 0)
-      (by (unposted_steps v.runner == 0))
-    where
-      way : BookValue → WorkerValue → Bool → Turn
-      way d z t = cond t (called d z.grant.worker (call.Retract z.grant) (after_retract z)) (stays d (Some z) (world.Runner NotAtMark))
-
-      by : (t : Bool) → AlikeTold told.Retracted told.Retracted (way b v t) (way c w t)
-      by true = own_called (call.Retract v.grant) (call.Retract w.grant) (call.Retract v.grant) refl refl after_retract retract_reads told.Retracted tt
-      by false = (here, refl)
+      both_ways (AlikeTold told.Retracted told.Retracted) _ _ (λ j. unposted_steps (e j) == 0) _ _ _ _
+      (own_called (call.Retract v.grant) (call.Retract w.grant) (call.Retract v.grant) refl refl after_retract retract_reads told.Retracted tt)
+      (here, refl)
 
 -- an act of a worker by its own lease, or of its runner
 abbrev pub is_own : Act → Bool
@@ -283,8 +223,4 @@ turn_alike b c (Some v) (Some w) Abandon own h i k =
     end_told b c k.book v w (same_runner v w k.runner) h i (call.Abandon v.grant) (call.Abandon w.grant) (call.Abandon v.grant) refl refl
 turn_alike b c (Some v) (Some w) Close own h i k =
     end_told b c k.book v w (same_runner v w k.runner) h i (call.Close v.grant) (call.Close w.grant) (call.Close v.grant) refl refl
-turn_alike b c (Some v) (Some w) (Lease id) own h i k = absurd (false≢true own)
-turn_alike b c (Some v) (Some w) LeaseAny own h i k = absurd (false≢true own)
-turn_alike b c (Some v) (Some w) (TakeHeld id) own h i k = absurd (false≢true own)
-turn_alike b c (Some v) (Some w) (PutBack id s) own h i k = absurd (false≢true own)
-turn_alike b c (Some v) (Some w) (RequestStop id) own h i k = absurd (false≢true own)
+turn_alike b c (Some v) (Some w) _ own h i k = absurd (false≢true own)

@@ -28,9 +28,9 @@ use Rattle.debug_language.specs.declared.words.Counted.TheVariants as counts
 use Rattle.debug_language.specs.declared.words.Plain.TheVariants.{Closed}
 use Rattle.debug_language.specs.Replies.{saved_text}
 use Rattle.debug_language.specs.declared.fault.DebugFault.TheVariants.{BadCommand, NoBranch}
-use Rattle.debug_views.specs.Breakpoints.{with_break}
-use Rattle.debug_views.specs.Lines.{plain, counted, set, state_line, debug_refusal, book_refusal, snapshot_refusal}
-use Rattle.debug_views.specs.Tiles.{tile_line, place_at}
+use Rattle.debug_acts.specs.Breakpoints.{with_break}
+use Rattle.debug_acts.specs.Lines.{plain, counted, set, state_line, debug_refusal, book_refusal, snapshot_refusal}
+use Rattle.debug_acts.specs.Tiles.{tile_line, place_at}
 use Rattle.debug_acts.specs.Walk.{step_count, run_count, run_lines, back_count, back_lines}
 use Rattle.debug_acts.specs.declared.answer.Told.{Told}
 use Rattle.debug_acts.specs.declared.answer.Told.TheVariants as told

@@ -3,7 +3,6 @@ use Rattle.std.proofs.Common.{◌≡◌, ℕ, ◌&&◌, not, Bool, true, false, 
 use Rattle.std.proofs.Common.{refl, sym, ap, ap₂, ◌∙◌}
 use Rattle.std.proofs.lemmas.Bool.{and_parts, not-true}
 use Rattle.cover_problem.specs.Problem.{ProblemValue}
-use Rattle.x_branches.specs.Runner.{RunnerValue}
 use Rattle.lab_book.specs.declared.status.Status.{Status}
 use Rattle.lab_book.specs.declared.status.Status.TheVariants as status
 use Rattle.lab_history.specs.declared.grant.Grant.{Grant}
@@ -15,7 +14,7 @@ use Rattle.lab_book.specs.Book.{BookValue, cut_path}
 use Rattle.lab_world.specs.Worker.{WorkerValue, lent_worker}
 use Rattle.lab_world.proofs.HoldLemmas.{own_lease}
 use Rattle.debug_language.specs.Replies.{standing_words}
-use Rattle.debug_views.specs.Tiles.{standing_of, tile_line, same_cut, is_begun_at, place_at}
+use Rattle.debug_acts.specs.Tiles.{standing_of, tile_line, same_cut, is_begun_at, place_at}
 use Rattle.lab_book_laws.specs.AlikeBooks.{AreAlikeBooks, anonymous_status, anonymous_tile}
 use Rattle.lab_book_laws.specs.AlikeCalls.{Correspond, NameSameTile, anonymous_reply}
 use Rattle.lab_book_laws.proofs.StatusLemmas.{closed_seen, leased_seen}

@@ -1,5 +1,5 @@
 -- What an act is told that calls the book, where the book answers alike; and what is read of a seat, which is its runner.
-use Rattle.std.proofs.Common.{◌≡◌, ℕ, ◌<◌, Option, Some, None, List, [], ◌∷◌, ◌++◌, length, refl, sym, ap, ◌∙◌, arith}
+use Rattle.std.proofs.Common.{◌≡◌, ℕ, ◌<◌, Option, Some, None, List, [], ◌∷◌, ◌++◌, length, refl, sym, ap, ◌∙◌}
 use Rattle.std.specs.List.{slice_get}
 use Rattle.std.proofs.lemmas.List.{length-set}
 use Rattle.std.proofs.lemmas.Option.{slice_get-get_or}
@@ -18,8 +18,8 @@ use Rattle.lab_world.specs.Worker.{WorkerValue}
 use Rattle.lab_world.specs.World.{called}
 use Rattle.lab_book_laws.specs.AlikeCalls.{anonymous_reply}
 use Rattle.lab_book_laws.proofs.PoolCallLemmas.{made_leaves}
-use Rattle.debug_views.specs.Lines.{state_line}
-use Rattle.debug_views.specs.Tiles.{tile_line}
+use Rattle.debug_acts.specs.Lines.{state_line}
+use Rattle.debug_acts.specs.Tiles.{tile_line}
 use Rattle.debug_acts.specs.declared.answer.Told.{Told}
 use Rattle.debug_acts.specs.declared.answer.Told.TheVariants as told
 use Rattle.debug_acts.specs.Answer.{reply_refusals, entry_refusals, lines_or, retracted_lines, rest_line, worker_place, worker_retracted, worker_parted, tile_lines, done_lines, turn_lines}

@@ -4,12 +4,10 @@ use Rattle.std.proofs.lemmas.Bool.{false≢true}
 use Rattle.shared_words.specs.Lists.{has}
 use Rattle.cover_problem.specs.Problem.{ProblemValue}
 use Rattle.x_steps.specs.StateValue.{StateValue}
-use Rattle.x_steps.specs.Steps.{next, event_of}
+use Rattle.x_steps.specs.Steps.{next}
 use Rattle.x_steps.specs.Before.{prev}
 use Rattle.x_steps.specs.Run.{after}
-use Rattle.x_steps.specs.declared.event.Event.TheVariants as event
 use Rattle.x_branches.specs.declared.branch.Branch.{Branch}
-use Rattle.x_branches.specs.declared.fault.RunnerFault.TheVariants.{AtBranchEnd, AtMark, StretchFull, NotAtMark}
 use Rattle.x_branches.specs.Branch.{end_of}
 use Rattle.x_branches.specs.Cut.{IsCut, cut_state}
 use Rattle.x_branches.specs.Stretch.{StretchValue, IsStretch}
@@ -33,9 +31,8 @@ use Rattle.lab_book.proofs.TileLemmas.{is_same_state, stretch_by, tile_can_start
 use Rattle.lab_world.specs.declared.event.Act.{Act}
 use Rattle.lab_world.specs.declared.event.Act.TheVariants.{Step, Back, Lease, LeaseAny, TakeHeld, Post, Split, Retract, Park, Abandon}
 use Rattle.lab_world.specs.declared.event.Act.TheVariants.{Close, PutBack, RequestStop}
-use Rattle.lab_world.specs.declared.event.WorldReply.TheVariants as world
 use Rattle.lab_world.specs.Worker.{WorkerValue, HoldsTile, moved_to, marked_at, unposted, split_call, lent_worker, after_post, after_split, after_retract, after_end}
-use Rattle.lab_world.specs.World.{Turn, IsSeat, turn_of, stays, called, cut_refusal, worker_at, played}
+use Rattle.lab_world.specs.World.{Turn, IsSeat, turn_of, called, worker_at, played}
 use Rattle.lab_world.specs.Alone.{alone, own_events}
 use Rattle.lab_world.proofs.HoldLemmas.{passed}
 use Rattle.lab_world.proofs.OwnLemmas.{Has, own, own_is_tile, found_own, last_own, some_is, retract_has}
@@ -88,6 +85,15 @@ pub record IsSoundSeat (b : BookValue) (x : Option WorkerValue) : Type 0 where
 abbrev Sound : Turn → Type 0
 Sound t = IsSoundSeat t.book t.worker
 
+-- the same where its seat is one
+abbrev Seated : Turn → Type 0
+Seated t = IsSeat t.book 0 t.worker → Sound t
+
+-- one of two turns, as a test decides
+decided : (P : Turn → Type 0) (c : Bool) (t u : Turn) → (c ≡ true → P t) → (c ≡ false → P u) → P (cond c t u)
+decided P true t u p q = p refl
+decided P false t u p q = q refl
+
 -- where a call leaves the seat one, and a runner in it
 called_sound : (b : BookValue) → IsTiling b.problem b.branch b.first b.tiles → (v : ℕ) (c : Call) (becomes : Reply → Option WorkerValue)
     → IsOfRun b.problem c → IsSeat (book_step b v c) 0 (becomes (outcome b v c).reply) → HasRunner (becomes (outcome b v c).reply)
@@ -127,36 +133,19 @@ module _ (b : BookValue) (w : WorkerValue) (h : IsSoundSeat b (Some w)) where
 
   step_sound : Sound (turn_of b (Some w) 0 Step)
   unfolding turn_of
-  step_sound = by (same_state r.position (end_of r.branch.hi)) refl (unposted_steps r == most_steps)
-    where
-      by : (v : Bool) → same_state r.position (end_of r.branch.hi) ≡ v → (q : Bool)
-          → Sound (cond v (stays b (Some w) (world.Runner AtBranchEnd)) (cond q (stays b (Some w) (world.Runner StretchFull)) (record {
-            reply = world.Event (event_of r.problem r.position);
-            book = b;
-            worker = Some (moved_to w (next r.problem r.position));
-          })))
-      by true e q = h
-      by false e true = h
-      by false e false =
-          let some = some_of (steps_ahead r) (λ n. false≢true (sym e ∙ is_same_state r.position (end_of r.branch.hi) (at_end n))) in
-          moved (next r.problem r.position) (next_runner (work b w) s some)
+  step_sound =
+      decided Sound (same_state r.position (end_of r.branch.hi)) _ _ (λ e. h) (λ e.
+      decided Sound (unposted_steps r == most_steps) _ _ (λ f. h) (λ f.
+      moved (next r.problem r.position) (next_runner (work b w) s
+      (some_of (steps_ahead r) (λ n. false≢true (sym e ∙ is_same_state r.position (end_of r.branch.hi) (at_end n)))))))
 
   step_back_sound : Sound (turn_of b (Some w) 0 Back)
   unfolding turn_of
-  step_back_sound = by (same_state r.position r.mark) refl
-    where
-      by : (v : Bool) → same_state r.position r.mark ≡ v
-          → Sound (cond v (stays b (Some w) (world.Runner AtMark)) (record {
-            reply = world.Event event.Moved;
-            book = b;
-            worker = Some (moved_to w (prev r.problem r.position));
-          }))
-      by true e = h
-      by false e =
-          let some = some_of (unposted_steps r) (λ n. false≢true (sym e ∙ is_same_state r.position r.mark (sym (at_mark r h.runner n)))) in
-          let there = ap (prev r.problem) (sym (none_back r h.runner)) ∙ back_next r h.runner 0 some in
-          subst (λ t. IsSoundSeat b (Some (moved_to w t))) (sym there)
-          (moved _ (back_runner (work b w) s (unposted_steps r - 1) (omega arith)))
+  step_back_sound =
+      decided Sound (same_state r.position r.mark) _ _ (λ e. h) (λ e.
+      let some = some_of (unposted_steps r) (λ n. false≢true (sym e ∙ is_same_state r.position r.mark (sym (at_mark r h.runner n)))) in
+      let there = ap (prev r.problem) (sym (none_back r h.runner)) ∙ back_next r h.runner 0 some in
+      subst (λ t. IsSoundSeat b (Some (moved_to w t))) (sym there) (moved _ (back_runner (work b w) s (unposted_steps r - 1) (omega arith))))
 
   -- what the book's answer leaves of it has a runner
   end_runner : (z : Reply) → HasRunner (after_end w z)
@@ -174,11 +163,14 @@ module _ (b : BookValue) (w : WorkerValue) (h : IsSoundSeat b (Some w)) where
 
   split_sound : (level o : ℕ) → Sound (turn_of b (Some w) 0 (Split level o))
   unfolding turn_of
-  split_sound level o = by (has (untried_in r level) o) refl (turn_keeps b 0 h.tiling (Some w) (Split level o) h.seat)
+  split_sound level o =
+      decided Seated (has (untried_in r level) o) _ _ (λ e k.
+      let cut = cut_is b w h.tiling h.seat.1 h.runner level o e in
+      called_sound b h.tiling w.grant.worker (split_call w (with_choice r.position level o)) (after_split w (cut_at r level o))
+      (subst (λ (p : ProblemValue). IsCut p (with_choice r.position level o)) h.seat.1.problem cut.cut) k
+      (ended e (outcome b w.grant.worker (split_call w (with_choice r.position level o))).reply)) (λ e k. h)
+      (turn_keeps b 0 h.tiling (Some w) (Split level o) h.seat)
     where
-      parting : Turn
-      parting = called b w.grant.worker (split_call w (with_choice r.position level o)) (after_split w (cut_at r level o))
-
       ended : has (untried_in r level) o ≡ true → (z : Reply) → HasRunner (after_split w (cut_at r level o) z)
       ended e (reply.Split id) =
           let cut = cut_is b w h.tiling h.seat.1 h.runner level o e in
@@ -186,17 +178,6 @@ module _ (b : BookValue) (w : WorkerValue) (h : IsSoundSeat b (Some w)) where
           (comes_rank r.problem r.position (cut_state (with_choice r.position level o)) (here_fits (work b w) s) cut.later)
       ended e (reply.Leased g lo hi mark n) = h.runner
       ended e _ = h.runner
-
-      by : (v : Bool) → has (untried_in r level) o ≡ v
-          → IsSeat (cond v parting (stays b (Some w) (world.Runner (cut_refusal r level o)))).book 0
-          (cond v parting (stays b (Some w) (world.Runner (cut_refusal r level o)))).worker
-          → Sound (cond v parting (stays b (Some w) (world.Runner (cut_refusal r level o))))
-      by true e k =
-          let cut = cut_is b w h.tiling h.seat.1 h.runner level o e in
-          called_sound b h.tiling w.grant.worker (split_call w (with_choice r.position level o)) (after_split w (cut_at r level o))
-          (subst (λ (p : ProblemValue). IsCut p (with_choice r.position level o)) h.seat.1.problem cut.cut) k
-          (ended e (outcome b w.grant.worker (split_call w (with_choice r.position level o))).reply)
-      by false e k = h
 
   -- ---- the last stretch is taken out
 
@@ -245,18 +226,10 @@ module _ (b : BookValue) (w : WorkerValue) (h : IsSoundSeat b (Some w)) where
 
   retract_sound : Sound (turn_of b (Some w) 0 Retract)
   unfolding turn_of
-  retract_sound = by (unposted_steps r == 0) refl (turn_keeps b 0 h.tiling (Some w) Retract h.seat)
-    where
-      taking : Turn
-      taking = called b w.grant.worker (call.Retract w.grant) (after_retract w)
-
-      by : (v : Bool) → (unposted_steps r == 0) ≡ v
-          → IsSeat (cond v taking (stays b (Some w) (world.Runner NotAtMark))).book 0 (cond v taking (stays b (Some w) (world.Runner NotAtMark))).worker
-          → Sound (cond v taking (stays b (Some w) (world.Runner NotAtMark)))
-      by true e k =
-          called_sound b h.tiling w.grant.worker (call.Retract w.grant) (after_retract w) tt k
-          (taken_back (eqb-true (unposted_steps r) 0 e) asked_reply refl)
-      by false e k = h
+  retract_sound =
+      decided Seated (unposted_steps r == 0) _ _ (λ e k.
+      called_sound b h.tiling w.grant.worker (call.Retract w.grant) (after_retract w) tt k (taken_back (eqb-true (unposted_steps r) 0 e) asked_reply refl))
+      (λ e k. h) (turn_keeps b 0 h.tiling (Some w) Retract h.seat)
 
 -- ---- each act
 

@@ -3,17 +3,15 @@
 --
 -- Example: a session whose branch is open behind the cut 4 of the small problem, in a book with one closed tile up to there, is alike
 -- to one in a book with two. proofs/SessionExamples.antt computes it.
-use Rattle.std.specs.Prelude.{ℕ, ◌≡◌, List, Option, Some, None}
+use Rattle.std.specs.Prelude.{ℕ, ◌≡◌, Option, Some, None}
 use Rattle.x_branches.specs.Runner.{IsRunner}
 use Rattle.lab_book.specs.Tiling.{IsTiling}
 use Rattle.lab_book.specs.Book.{BookValue, leased_in, IsTiled}
 use Rattle.lab_world.specs.Worker.{WorkerValue}
 use Rattle.lab_world.specs.World.{IsSeat}
-use Rattle.debug_language.specs.Command.{CommandValue}
 use Rattle.x_debug.specs.Session.{SessionValue, session_on}
 use Rattle.x_debug.specs.Questions.{runner_of}
-use Rattle.x_debug.specs.Commands.{Answer, IsLeft, answer, answer_line}
-use Rattle.x_debug.specs.LoadedTexts.{load_answer}
+use Rattle.x_debug.specs.Commands.{Answer}
 use Rattle.lab_book_laws.specs.AlikeBooks.{AreAlikeBooks}
 use Rattle.lab_book_laws.specs.Searched.{searched, IsSearched}
 
@@ -70,17 +68,9 @@ pub record AreAlikeAnswers (a b : Answer) : Type 0 where
 abbrev pub LeavesSeated : SessionValue → Answer → Type 0
 LeavesSeated s a = IsSeatedSession s → IsSeatedSession a.session
 
--- so does a line where memory runs out
-abbrev pub StopsSeated : SessionValue → List ℕ → SessionValue → Type 0
-StopsSeated s line new = IsSeatedSession s → IsLeft s line new → IsSeatedSession new
-
 -- an answer to a sound session leaves a sound one
 abbrev pub LeavesSound : SessionValue → Answer → Type 0
 LeavesSound s a = IsSoundSession s → IsSoundSession a.session
-
--- so does a line where memory runs out
-abbrev pub StopsSound : SessionValue → List ℕ → SessionValue → Type 0
-StopsSound s line new = IsSoundSession s → IsLeft s line new → IsSoundSession new
 
 -- of two sessions that are alike, with no branch open, a pool made the first one's book to this one; the session on it is alike to that on
 -- the second one's searched book
@@ -99,30 +89,6 @@ PooledSeated a b new =
 abbrev pub SeatedAgreeOn : SessionValue → SessionValue → (SessionValue → Answer) → Type 0
 SeatedAgreeOn a b f = AreSeatedAlike a b → AreSeatedAnswers (f a) (f b)
 
--- the same of a command
-abbrev pub SeatedAgreeOnCommand : SessionValue → SessionValue → CommandValue → Type 0
-SeatedAgreeOnCommand a b c = SeatedAgreeOn a b (λ s. answer s c)
-
--- of a line
-abbrev pub SeatedAgreeOnLine : SessionValue → SessionValue → List ℕ → Type 0
-SeatedAgreeOnLine a b line = SeatedAgreeOn a b (λ s. answer_line s line)
-
--- and of a text that is loaded
-abbrev pub SeatedAgreeOnLoad : SessionValue → SessionValue → List ℕ → Type 0
-SeatedAgreeOnLoad a b bytes = SeatedAgreeOn a b (λ s. load_answer s bytes)
-
 -- where two sessions are sound and alike, they answer alike
 abbrev pub AgreeOn : SessionValue → SessionValue → (SessionValue → Answer) → Type 0
 AgreeOn a b f = AreSoundAlike a b → AreAlikeAnswers (f a) (f b)
-
--- the same of a command
-abbrev pub AgreeOnCommand : SessionValue → SessionValue → CommandValue → Type 0
-AgreeOnCommand a b c = AgreeOn a b (λ s. answer s c)
-
--- of a line
-abbrev pub AgreeOnLine : SessionValue → SessionValue → List ℕ → Type 0
-AgreeOnLine a b line = AgreeOn a b (λ s. answer_line s line)
-
--- and of a text that is loaded
-abbrev pub AgreeOnLoad : SessionValue → SessionValue → List ℕ → Type 0
-AgreeOnLoad a b bytes = AgreeOn a b (λ s. load_answer s bytes)

@@ -5,9 +5,9 @@ ghost use Rattle.cover_problem.specs.Problem.{ProblemValue};
 ghost use Rattle.lab_book.specs.Book.{BookValue};
 ghost use Rattle.debug_language.specs.Command.{CommandValue};
 ghost use Rattle.x_debug.specs.Session.{SessionValue, fresh_session};
-ghost use Rattle.x_debug.specs.Commands.{answer, answer_line, world_of};
+ghost use Rattle.x_debug.specs.Commands.{IsLeft, answer, answer_line, world_of};
 ghost use Rattle.x_debug.specs.LoadedTexts.{load_answer};
-ghost use Rattle.debug_laws.specs.AlikeSessions.{IsSeatedSession, IsSoundSession, AreSeatedAlike, AreSoundAlike, LeavesSeated, LeavesSound, StopsSeated, StopsSound, AgreeOnCommand, AgreeOnLine, AgreeOnLoad, SeatedAgreeOnCommand, SeatedAgreeOnLine, SeatedAgreeOnLoad, PooledAlike, PooledSeated};
+ghost use Rattle.debug_laws.specs.AlikeSessions.{IsSeatedSession, IsSoundSession, AreSeatedAlike, AreSoundAlike, LeavesSeated, LeavesSound, AgreeOn, SeatedAgreeOn, PooledAlike, PooledSeated};
 ghost use Rattle.debug_laws.specs.PlayedSessions.{BeginsEntered, SessionPlays, WholePlays, Loads};
 
 /// A new session of any problem is sound, and so is each session that a command, a line or a text that is loaded leaves of a sound
@@ -18,11 +18,13 @@ pub fn sessions_are_sound()
     ensures command { (s : SessionValue) (c : CommandValue) → LeavesSound s (answer s c) }
     ensures line { (s : SessionValue) (line : List ℕ) → LeavesSound s (answer_line s line) }
     ensures load { (s : SessionValue) (bytes : List ℕ) → LeavesSound s (load_answer s bytes) }
-    ensures stopped { (s new : SessionValue) (line : List ℕ) → StopsSound s line new }
+    ensures stopped { (s new : SessionValue) (line : List ℕ) → IsSoundSession s → IsLeft s line new
+        → IsSoundSession new }
     ensures seated_command { (s : SessionValue) (c : CommandValue) → LeavesSeated s (answer s c) }
     ensures seated_line { (s : SessionValue) (line : List ℕ) → LeavesSeated s (answer_line s line) }
     ensures seated_load { (s : SessionValue) (bytes : List ℕ) → LeavesSeated s (load_answer s bytes) }
-    ensures seated_stopped { (s new : SessionValue) (line : List ℕ) → StopsSeated s line new }
+    ensures seated_stopped { (s new : SessionValue) (line : List ℕ) → IsSeatedSession s → IsLeft s line new
+        → IsSeatedSession new }
     ensures itself { (s : SessionValue) → IsSoundSession s → AreSoundAlike s s }
     ensures seated_itself { (s : SessionValue) → IsSeatedSession s → AreSeatedAlike s s }
 {}
@@ -31,12 +33,12 @@ pub fn sessions_are_sound()
 /// sound. Seated ones do so too, and stay alike and seated.
 // A pool goes on with a session that is only alike to the one of the definition. These keep its answers the same.
 pub fn alike_sessions_answer_the_same()
-    ensures command { (a b : SessionValue) (c : CommandValue) → AgreeOnCommand a b c }
-    ensures line { (a b : SessionValue) (line : List ℕ) → AgreeOnLine a b line }
-    ensures load { (a b : SessionValue) (bytes : List ℕ) → AgreeOnLoad a b bytes }
-    ensures seated_command { (a b : SessionValue) (c : CommandValue) → SeatedAgreeOnCommand a b c }
-    ensures seated_line { (a b : SessionValue) (line : List ℕ) → SeatedAgreeOnLine a b line }
-    ensures seated_load { (a b : SessionValue) (bytes : List ℕ) → SeatedAgreeOnLoad a b bytes }
+    ensures command { (a b : SessionValue) (c : CommandValue) → AgreeOn a b (λ s. answer s c) }
+    ensures line { (a b : SessionValue) (line : List ℕ) → AgreeOn a b (λ s. answer_line s line) }
+    ensures load { (a b : SessionValue) (bytes : List ℕ) → AgreeOn a b (λ s. load_answer s bytes) }
+    ensures seated_command { (a b : SessionValue) (c : CommandValue) → SeatedAgreeOn a b (λ s. answer s c) }
+    ensures seated_line { (a b : SessionValue) (line : List ℕ) → SeatedAgreeOn a b (λ s. answer_line s line) }
+    ensures seated_load { (a b : SessionValue) (bytes : List ℕ) → SeatedAgreeOn a b (λ s. load_answer s bytes) }
 {}
 
 /// Whatever tiling a pool makes of the book of a sound session with no branch open, or of a seated one with no tile leased, the session on

@@ -9,8 +9,8 @@ use Rattle.lab_book.specs.Book.{BookValue, leased_in}
 use Rattle.lab_world.specs.Worker.{WorkerValue}
 use Rattle.lab_world.specs.World.{IsSeat}
 use Rattle.debug_language.specs.declared.fault.DebugFault.TheVariants.{AlreadyOpen}
-use Rattle.debug_views.specs.Lines.{debug_refusal}
-use Rattle.debug_views.proofs.LineLemmas.{one_line}
+use Rattle.debug_acts.specs.Lines.{debug_refusal}
+use Rattle.debug_acts.proofs.LineLemmas.{one_line}
 use Rattle.x_debug.specs.Session.{SessionValue}
 use Rattle.x_debug.specs.Commands.{says, done_by}
 use Rattle.x_debug.specs.LoadedTexts.{answers}

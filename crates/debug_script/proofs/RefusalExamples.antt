@@ -1,6 +1,6 @@
 -- The example of specs/Refusals.antt.
 use Rattle.std.proofs.Common.{◌≡◌, [], ◌∷◌, true, false, codes, inl, inr, arith, refl}
-use Rattle.lab_pool.specs.declared.fault.PoolFault.TheVariants.{BadWorkerCount, NoThread, Held}
+use Rattle.lab_pool.specs.declared.fault.PoolFault.TheVariants.{BadWorkerCount, NoThread}
 use Rattle.lab_pool.specs.Pool.{IsBadCount}
 use Rattle.debug_language.specs.Reader.{engine_from}
 use Rattle.debug_script.specs.Refusals.{MayRefuse, MayEnd, has_pool}

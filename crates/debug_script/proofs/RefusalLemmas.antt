@@ -14,7 +14,7 @@ use Rattle.x_debug.specs.Session.{SessionValue}
 use Rattle.debug_script.specs.Input.{raw_lines, without_newline}
 use Rattle.debug_script.specs.Refusals.{MayRefuse, MayEnd, IsWantOr, IsWantOrAsked, asks_for_workers, has_pool}
 use Rattle.debug_script.specs.Replies.{exchange}
-use Rattle.debug_language.specs.Reader.{most_number, number_from, count_from, workers, load_from, pool_from, quit_from, engine_from, engine_command_of}
+use Rattle.debug_language.specs.Reader.{most_number, number_from, count_from, workers, load_from, pool_from, engine_from, engine_command_of}
 
 positive_is : (m n : ℕ) → positive m ≡ Some n → 0 < n
 positive_is m n = by (nat_lt 0 m) refl

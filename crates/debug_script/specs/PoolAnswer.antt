@@ -7,7 +7,7 @@ use Rattle.lab_book.specs.Book.{BookValue}
 use Rattle.x_debug.specs.Session.{SessionValue, session_on}
 use Rattle.lab_world.specs.Worker.{WorkerValue}
 use Rattle.debug_language.specs.declared.fault.DebugFault.TheVariants.{AlreadyOpen}
-use Rattle.debug_views.specs.Lines.{debug_refusal}
+use Rattle.debug_acts.specs.Lines.{debug_refusal}
 use Rattle.x_debug.specs.Commands.{Answer, says, done_by}
 use Rattle.x_debug.specs.LoadedTexts.{answers}
 use Rattle.lab_book_laws.specs.AlikeBooks.{held_tiles}

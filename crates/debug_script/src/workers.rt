@@ -4,7 +4,7 @@ ghost use Rattle.text_lines.specs.Writing.{line_text};
 ghost use Rattle.lab_book.specs.Book.{leased_in};
 ghost use Rattle.lab_book.specs.Tiling.{IsTiling};
 ghost use Rattle.lab_book_laws.specs.Searched.{IsSearched};
-ghost use Rattle.debug_views.specs.Lines.{debug_refusal};
+ghost use Rattle.debug_acts.specs.Lines.{debug_refusal};
 ghost use Rattle.debug_script.specs.Alike.{SaysAlike, StaysAlike};
 ghost use Rattle.debug_script.specs.PoolAnswer.{none_held, pool_words, pool_said, pool_left};
 ghost use Rattle.debug_script.specs.Refusals.{MayRefuse, IsWantOr};

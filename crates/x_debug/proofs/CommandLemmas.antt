@@ -17,8 +17,7 @@ use Rattle.x_snapshot.specs.Reader.{only, positive, option_number, kind_from, br
 use Rattle.x_snapshot.proofs.BackLemmas.{some_is, none_some, and_then_is, map_is}
 use Rattle.debug_language.specs.Command.{CommandValue}
 use Rattle.debug_language.specs.Command as command
-use Rattle.debug_language.specs.Question.{question_of}
-use Rattle.debug_language.specs.Reader.{count_from, cut_from, save_word, save_from, put_back_from, joined_cut, plain_command, long_command, lone_command, command_from, command_of, pair_from}
+use Rattle.debug_language.specs.Reader.{count_from, save_word, save_from, put_back_from, joined_cut, plain_command, long_command, lone_command, command_from, command_of}
 use Rattle.x_debug.specs.Commands.{is_command}
 
 -- ---- a breakpoint that was read

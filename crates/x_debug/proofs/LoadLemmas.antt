@@ -27,7 +27,7 @@ use Rattle.lab_world.specs.Alone.{alone}
 use Rattle.lab_world.proofs.TurnLemmas.{lease_any_seat}
 use Rattle.debug_language.specs.declared.words.Layer.TheVariants as layer
 use Rattle.debug_language.specs.Replies.{refused_words}
-use Rattle.debug_views.specs.Lines.{state_line, book_refusal, snapshot_refusal}
+use Rattle.debug_acts.specs.Lines.{state_line, book_refusal, snapshot_refusal}
 use Rattle.x_debug.specs.Session.{SessionValue, entered}
 use Rattle.x_debug.specs.LoadedTexts.{resumed, with_some, seated, loaded}
 use Rattle.x_debug.specs.Commands.{Answer}

@@ -13,7 +13,7 @@ use Rattle.lab_book.specs.Tile.{TileValue, is_closed, asked_status}
 use Rattle.lab_book.specs.Tiling.{tile_at, no_tile}
 use Rattle.lab_book.specs.Book.{BookValue, outcome, found, made_at, settled, asked_to_stop, put_back, status_fault, mark_fault}
 use Rattle.lab_world.proofs.HoldLemmas.{found_ok}
-use Rattle.debug_views.specs.Tiles.{place_at, is_begun_at}
+use Rattle.debug_acts.specs.Tiles.{place_at, is_begun_at}
 
 -- the tile that begins at a cut isn't closed
 pub begun_is_open : (ts : List TileValue) (lo : Option (List ℕ)) (i : ℕ) → place_at lo ts ≡ Some i → is_closed (tile_at ts i).status ≡ false

@@ -1,5 +1,5 @@
 -- What is true of every session stays true, and what acts of its worker leave of it.
-use Rattle.std.proofs.Common.{◌≡◌, ℕ, ◌-◌, true, false, is_some, Option, Some, None, Result, Ok, Err, List, [], ◌∷◌, ◌++◌, length, take, OnOk, OnErr, refl, sym, ◌∙◌, ap, subst}
+use Rattle.std.proofs.Common.{◌≡◌, ℕ, true, is_some, Option, Some, None, Result, Ok, Err, List, [], ◌++◌, length, take, OnOk, OnErr, refl, sym, ◌∙◌, ap, subst}
 use Rattle.std.specs.List.{list_all}
 use Rattle.std.proofs.lemmas.Bool.{false≢true}
 use Rattle.cover_problem.specs.Problem.{ProblemValue}
@@ -11,12 +11,11 @@ use Rattle.lab_book.specs.Book.{BookValue, outcome, book_step}
 use Rattle.lab_world.specs.declared.event.Act.{Act}
 use Rattle.lab_world.specs.Worker.{WorkerValue, HoldsTile, lent_worker}
 use Rattle.lab_world.specs.World.{WorldValue, IsSeat, worker_at}
-use Rattle.lab_world.specs.Alone.{alone, Leads}
+use Rattle.lab_world.specs.Alone.{Leads}
 use Rattle.lab_world.proofs.TurnLemmas.{lease_any_seat}
 use Rattle.debug_acts.specs.Acts.{PlaysSome, Plays}
-use Rattle.debug_acts.specs.declared.answer.Told.TheVariants as told
 use Rattle.x_debug.specs.Session.{SessionValue, IsSession, fresh_session}
-use Rattle.x_debug.specs.Commands.{Deed, if_open, does, left_by, IsLeftBy, DoesDeed, FailsDeed}
+use Rattle.x_debug.specs.Commands.{Deed, if_open, does, left_by, IsLeftBy, DoesDeed}
 
 -- a session whose book and worker are others
 abbrev pub with_seat : SessionValue → BookValue → Option WorkerValue → SessionValue
@@ -65,9 +64,6 @@ module _ {X E : Type 0} (r : Result X E) (v new : SessionValue) (d e : Deed) (sa
   pub does_same : DoesDeed r v new d → DoesDeed r v new e
   does_same h = subst (DoesDeed r v new) same h
 
-  pub fails_same : FailsDeed r v new d → FailsDeed r v new e
-  fails_same h = subst (FailsDeed r v new) same h
-
   pub tells_same : (old text : List ℕ) → OnOk r (text ≡ old ++ d.text) → OnOk r (text ≡ old ++ e.text)
   tells_same old text h = subst (λ (f : Deed). OnOk r (text ≡ old ++ f.text)) same h
 
@@ -86,10 +82,8 @@ pub open_plays : {X E : Type 0} (r : Result X E) (v : SessionValue) (w : WorkerV
     → (lines : WorkerValue → List (List (List ℕ))) (acts : SessionValue → WorkerValue → List Act) (b : BookValue) (y : Option WorkerValue)
     → Plays r v.book (Some w) (acts (with_seat v v.book (Some w)) w) b y
     → DoesDeed r v (with_seat v b y) (if_open v v.worker (λ u. does v (lines u) (acts v u)))
-    × FailsDeed r v (with_seat v b y) (if_open v v.worker (λ u. does v (lines u) (acts v u)))
 open_plays r v w at lines acts b y p =
-    subst (λ (x : Option WorkerValue). let s = with_seat v v.book x in DoesDeed r s (with_seat v b y) (if_open s x (λ u. does s (lines u) (acts s u)))
-    × FailsDeed r s (with_seat v b y) (if_open s x (λ u. does s (lines u) (acts s u)))) (sym at)
+    subst (λ (x : Option WorkerValue). let s = with_seat v v.book x in DoesDeed r s (with_seat v b y) (if_open s x (λ u. does s (lines u) (acts s u)))) (sym at)
     (let s = with_seat v v.book (Some w) in plays_left r s (acts s w) (length (acts s w)) b y p)
 
 -- its worker holds its tile

@@ -32,9 +32,9 @@ use Rattle.debug_language.specs.declared.command.Command.{Command}
 use Rattle.debug_language.specs.Command.{CommandValue, command_value}
 use Rattle.debug_language.specs.Command as command
 use Rattle.debug_language.specs.Reader.{command_of}
-use Rattle.debug_views.specs.Breakpoints.{with_break}
-use Rattle.debug_views.specs.Lines.{plain, counted, set, debug_refusal, book_refusal}
-use Rattle.debug_views.specs.Tiles.{given_cut, place_at}
+use Rattle.debug_acts.specs.Breakpoints.{with_break}
+use Rattle.debug_acts.specs.Lines.{plain, counted, set, debug_refusal, book_refusal}
+use Rattle.debug_acts.specs.Tiles.{given_cut, place_at}
 use Rattle.debug_acts.specs.declared.answer.Told.{Told}
 use Rattle.debug_acts.specs.declared.answer.Told.TheVariants as told
 use Rattle.debug_acts.specs.Walk.{step_count, step_lines, run_count, run_lines, back_count, back_lines}
@@ -132,8 +132,8 @@ abbrev pub back_deed : SessionValue → ℕ → Deed
 back_deed s n = if_open s s.worker (λ w. does s (back_lines w.runner n) (replicate (back_count w.runner n) Back))
 
 -- `break`: b is a breakpoint now, after those that were set before; it stays where it is if it is one already
-abbrev pub set_deed : SessionValue → Break → Deed
-set_deed s b = with_breaks (with_break s.breaks b) (set s.book.problem.names b ∷ [])
+abbrev pub break_deed : SessionValue → Break → Deed
+break_deed s b = with_breaks (with_break s.breaks b) (set s.book.problem.names b ∷ [])
 
 -- `clear`: no breakpoint is left, and the answer is how many there were
 abbrev pub clear_deed : SessionValue → Deed
@@ -193,7 +193,7 @@ deed_of s command.Nothing = says s []
 deed_of s (command.Step n) = step_deed s n
 deed_of s command.Run = run_deed s
 deed_of s (command.Back n) = back_deed s n
-deed_of s (command.SetBreak b) = set_deed s b
+deed_of s (command.SetBreak b) = break_deed s b
 deed_of s command.Clear = clear_deed s
 deed_of s (command.Ask question) = says s (lines_asked s question)
 deed_of s (command.Split level option) = split_deed s level option
@@ -258,13 +258,10 @@ IsLeft s line new = MayLeave s (deed_of_line s line) new
 
 -- ---- what calls do
 
--- unless a call has an error, what isn't posted is posted, and then this act is done
+-- what isn't posted is posted, and then this act is done, which isn't where the call has an error
 abbrev pub EndsBy : {X E : Type 0} → Result X E → SessionValue → Act → SessionValue → Type 0
-EndsBy result s a new = OnOk result (new ≡ left_by s (end_acts s.worker a))
-
--- where a call has an error, what isn't posted may be posted, and the act after it isn't done
-abbrev pub EndsShort : {X E : Type 0} → Result X E → SessionValue → Act → SessionValue → Type 0
-EndsShort result s a new = OnErr result (IsLeftBy s (end_acts s.worker a) (length (end_acts s.worker a) - 1) new)
+EndsBy result s a new =
+    OnOk result (new ≡ left_by s (end_acts s.worker a)) × OnErr result (IsLeftBy s (end_acts s.worker a) (length (end_acts s.worker a) - 1) new)
 
 -- the snapshot of where a worker stands, with these breakpoints, or the refusal where there is none
 abbrev pub saved_or : Option WorkerValue → List Break → List ℕ
@@ -275,10 +272,6 @@ saved_or (Some w) breaks = save_text w breaks
 abbrev pub TellsDeed : {X E : Type 0} → Result X E → Vec ℕ → Vec ℕ → Deed → Type 0
 TellsDeed result old new d = Adds result old new d.text
 
--- and leaves the session that the deed leaves
+-- and leaves the session that the deed leaves; where it has one, some first ones of the acts are done
 abbrev pub DoesDeed : {X E : Type 0} → Result X E → SessionValue → SessionValue → Deed → Type 0
-DoesDeed result old new d = OnOk result (new ≡ (done_by old d).session)
-
--- where it has one, some first ones of the acts are done
-abbrev pub FailsDeed : {X E : Type 0} → Result X E → SessionValue → SessionValue → Deed → Type 0
-FailsDeed result old new d = OnErr result (MayLeave old d new)
+DoesDeed result old new d = OnOk result (new ≡ (done_by old d).session) × OnErr result (MayLeave old d new)

@@ -13,7 +13,7 @@ use Rattle.x_snapshot.specs.Judged.{judged_parts, snapshot_of}
 use Rattle.lab_history.specs.declared.fault.BookFault.TheVariants.{ForeignProblem}
 use Rattle.lab_book.specs.Book.{new_book}
 use Rattle.lab_world.specs.World.{WorldValue, worker_at}
-use Rattle.debug_views.specs.Lines.{state_line, book_refusal, snapshot_refusal}
+use Rattle.debug_acts.specs.Lines.{state_line, book_refusal, snapshot_refusal}
 use Rattle.x_debug.specs.Session.{SessionValue, entered}
 use Rattle.x_debug.specs.Commands.{Answer}
 

@@ -12,9 +12,9 @@ use Rattle.debug_language.specs.declared.words.Plain.TheVariants.{NoBranches}
 use Rattle.debug_language.specs.declared.words.Counted.TheVariants as counts
 use Rattle.debug_language.specs.declared.question.Question.{Question}
 use Rattle.debug_language.specs.declared.question.Question.TheVariants as questions
-use Rattle.debug_views.specs.Lines.{plain, counted, debug_refusal}
-use Rattle.debug_views.specs.Overview.{show_lines, untried_lines, or_none}
-use Rattle.debug_views.specs.Tiles.{open_lines, visits_lines}
+use Rattle.debug_acts.specs.Lines.{plain, counted, debug_refusal}
+use Rattle.debug_acts.specs.Overview.{show_lines, untried_lines, or_none}
+use Rattle.debug_acts.specs.Tiles.{open_lines, visits_lines}
 use Rattle.x_debug.specs.Session.{SessionValue}
 
 -- the runner of the open branch, if there is one: a worker without its lease

@@ -3,7 +3,7 @@ ghost use Rattle.std.specs.Prelude.{ℕ, List, Option};
 ghost use Rattle.x_steps.specs.StateValue.{StateValue};
 ghost use Rattle.lab_history.specs.declared.entry.Call.TheVariants as calls;
 ghost use Rattle.lab_book.specs.Book.{BookValue};
-ghost use Rattle.debug_views.specs.Tiles.{NamesOpen, KeepsOpen};
+ghost use Rattle.debug_acts.specs.Tiles.{NamesOpen, KeepsOpen};
 
 /// The tile that `open`, `hold` and `putback` find isn't closed; nor does it become so where the book asks it to stop, or puts it
 /// back, which is when `hold` and `putback` show it.

@@ -5,7 +5,7 @@ ghost use Rattle.x_branches.specs.Runner.{IsRunner};
 ghost use Rattle.lab_world.specs.World.{IsSeat};
 ghost use Rattle.x_debug.specs.Session.{position_of, session_on, fresh_session};
 
-mod breakpoints;
+mod breaks;
 mod command;
 mod ends;
 mod requests;

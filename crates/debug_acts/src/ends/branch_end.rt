@@ -8,9 +8,9 @@ ghost use Rattle.debug_acts.specs.Acts.{is_ended, close_acts, PlaysShort};
 ghost use Rattle.debug_acts.specs.Ends.{close_line};
 
 use crate::ends::end_branch;
+use crate::tiles::write_book_fault;
 use cover_problem::Table;
 use debug_language::{Plain, write_plain};
-use debug_views::write_book_fault;
 use lab_book::{Book, BookFault};
 use lab_world::{Act, Worker, take_turn};
 use std::alloc::{AllocError, Global};

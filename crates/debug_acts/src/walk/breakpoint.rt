@@ -8,10 +8,10 @@ ghost use Rattle.lab_world.specs.World.{IsSeat};
 ghost use Rattle.debug_acts.specs.Walk.{stride, run_count, run_met, run_lines, stop_line, steps_ahead, visits_on};
 ghost use Rattle.debug_acts.specs.Acts.{PlaysRun};
 
+use crate::met::first_met;
 use crate::walk::{walk_on, write_moved};
 use cover_problem::Table;
 use debug_language::{DebugFault, Plain, write_debug_fault, write_met, write_plain};
-use debug_views::first_met;
 use indexmap::IndexSet;
 use lab_book::Book;
 use lab_world::Worker;

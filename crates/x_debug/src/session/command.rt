@@ -2,7 +2,7 @@
 ghost use Rattle.std.specs.Prelude.{◌≡◌, true, option_copied, IfOk, OnOk, OnErr};
 ghost use Rattle.x_snapshot.specs.Snapshot.{choices_of};
 ghost use Rattle.debug_language.specs.Command.{command_value};
-ghost use Rattle.x_debug.specs.Commands.{deed, answer_line, is_command, IsLeft, TellsDeed, DoesDeed, FailsDeed};
+ghost use Rattle.x_debug.specs.Commands.{deed, answer_line, is_command, IsLeft, TellsDeed, DoesDeed};
 
 use crate::session::Session;
 use cover_problem::Table;
@@ -40,7 +40,6 @@ impl<'p, T: Table> Session<'p, T> {
         requires { is_command self.old.book.problem (command_value command.now) ≡ true }
         ensures reply { TellsDeed result text.old text.new (deed self.old command.now) }
         ensures session { DoesDeed result self.old self.new (deed self.old command.now) }
-        ensures left { FailsDeed result self.old self.new (deed self.old command.now) }
     {
         match command {
             // Scripts may have empty lines.
@@ -48,7 +47,7 @@ impl<'p, T: Table> Session<'p, T> {
             Command::Step(most) => self.obey_step(*most, text),
             Command::Run => self.obey_run(text),
             Command::Back(most) => self.obey_back(*most, text),
-            Command::Break(breakpoint) => self.obey_set(*breakpoint, text),
+            Command::Break(breakpoint) => self.obey_break(*breakpoint, text),
             Command::Clear => self.obey_clear(text),
             Command::Ask(question) => self.answer_question(*question, text),
             Command::Split { level, option } => self.obey_split(alloc, *level, *option, text),

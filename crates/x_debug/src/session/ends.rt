@@ -2,7 +2,7 @@
 ghost use Rattle.std.specs.Prelude.{◌≡◌, [], true, is_some};
 ghost use Rattle.shared_words.specs.Answers.{Returns, Adds};
 ghost use Rattle.x_texts.specs.Breaks.{are_breaks};
-ghost use Rattle.x_debug.specs.Commands.{saved_or, park_deed, close_deed, save_deed, EndsBy, EndsShort, TellsDeed, DoesDeed, FailsDeed};
+ghost use Rattle.x_debug.specs.Commands.{saved_or, park_deed, close_deed, save_deed, EndsBy, TellsDeed, DoesDeed};
 
 use crate::session::Session;
 use cover_problem::Table;
@@ -15,8 +15,7 @@ use x_texts::Break;
 impl<'p, T: Table> Session<'p, T> {
     /// Posts what isn't posted, and then does an act. Out of memory that act isn't done.
     fn end(&mut self, alloc: Global, act: &Act) -> Result<(), AllocError>
-        ensures session { EndsBy result self.old act.now self.new }
-        ensures left { EndsShort result self.old act.now self.new }
+        ensures { EndsBy result self.old act.now self.new }
     {
         end_branch(alloc, &mut self.book, &mut self.worker, act)
     }
@@ -25,7 +24,6 @@ impl<'p, T: Table> Session<'p, T> {
     pub(super) fn obey_park(&mut self, alloc: Global, text: &mut Vec<u8>) -> Result<(), AllocError>
         ensures reply { TellsDeed result text.old text.new (park_deed self.old) }
         ensures session { DoesDeed result self.old self.new (park_deed self.old) }
-        ensures left { FailsDeed result self.old self.new (park_deed self.old) }
     {
         if !self.is_open() {
             return write_debug_fault(text, DebugFault::NoBranch);
@@ -40,7 +38,6 @@ impl<'p, T: Table> Session<'p, T> {
         requires { is_some self.old.worker ≡ true }
         ensures reply { TellsDeed result text.old text.new (close_deed self.old) }
         ensures session { DoesDeed result self.old self.new (close_deed self.old) }
-        ensures left { FailsDeed result self.old self.new (close_deed self.old) }
     {
         close(alloc, &mut self.book, &mut self.worker, text)
     }
@@ -49,7 +46,6 @@ impl<'p, T: Table> Session<'p, T> {
     pub(super) fn obey_close(&mut self, alloc: Global, text: &mut Vec<u8>) -> Result<(), AllocError>
         ensures reply { TellsDeed result text.old text.new (close_deed self.old) }
         ensures session { DoesDeed result self.old self.new (close_deed self.old) }
-        ensures left { FailsDeed result self.old self.new (close_deed self.old) }
     {
         if !self.is_open() {
             return write_debug_fault(text, DebugFault::NoBranch);
@@ -86,7 +82,6 @@ impl<'p, T: Table> Session<'p, T> {
         requires { are_breaks self.old.book.problem breaks.items ≡ true }
         ensures reply { TellsDeed result text.old text.new (save_deed self.old breaks.items) }
         ensures session { DoesDeed result self.old self.new (save_deed self.old breaks.items) }
-        ensures left { FailsDeed result self.old self.new (save_deed self.old breaks.items) }
     {
         // Before the branch is given up, since its runner goes with it.
         if !self.write_saved(alloc, breaks, text)? {
@@ -99,7 +94,6 @@ impl<'p, T: Table> Session<'p, T> {
     pub(super) fn obey_save(&mut self, alloc: Global, text: &mut Vec<u8>) -> Result<(), AllocError>
         ensures reply { TellsDeed result text.old text.new (save_deed self.old []) }
         ensures session { DoesDeed result self.old self.new (save_deed self.old []) }
-        ensures left { FailsDeed result self.old self.new (save_deed self.old []) }
     {
         self.save_with(alloc, Vec::new(alloc), text)
     }
@@ -112,7 +106,6 @@ impl<'p, T: Table> Session<'p, T> {
     ) -> Result<(), AllocError>
         ensures reply { TellsDeed result text.old text.new (save_deed self.old self.old.breaks) }
         ensures session { DoesDeed result self.old self.new (save_deed self.old self.old.breaks) }
-        ensures left { FailsDeed result self.old self.new (save_deed self.old self.old.breaks) }
     {
         // The snapshot has a list of its own; the session's stay set.
         let breaks = self.breaks.as_slice().to_vec(alloc)?;

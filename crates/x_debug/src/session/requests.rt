@@ -1,15 +1,14 @@
 //! What a session asks of its worker, and of the tiles of its book, by one act.
 ghost use Rattle.std.specs.Prelude.{◌≡◌, ◌<◌, length, IfOk, IfSome, option_map};
 ghost use Rattle.lab_book.specs.Tiling.{tile_at};
-ghost use Rattle.debug_views.specs.Tiles.{given_cut, place_at};
+ghost use Rattle.debug_acts.specs.Tiles.{given_cut, place_at};
 ghost use Rattle.debug_acts.specs.Acts.{enter_act};
-ghost use Rattle.x_debug.specs.Commands.{asks, split_deed, enter_by, hold_by, put_back_by, TellsDeed, DoesDeed, FailsDeed};
+ghost use Rattle.x_debug.specs.Commands.{asks, split_deed, enter_by, hold_by, put_back_by, TellsDeed, DoesDeed};
 
 use crate::session::Session;
 use cover_problem::Table;
-use debug_acts::{Told, ask};
+use debug_acts::{Told, ask, place_at, write_book_fault};
 use debug_language::{DebugFault, write_debug_fault};
-use debug_views::{place_at, write_book_fault};
 use lab_book::{Book, BookFault};
 use lab_world::{Act, Target};
 use std::alloc::{AllocError, Global};
@@ -50,7 +49,6 @@ impl<'p, T: Table> Session<'p, T> {
     ) -> Result<(), AllocError>
         ensures reply { TellsDeed result text.old text.new (asks self.old act.now told.now) }
         ensures session { DoesDeed result self.old self.new (asks self.old act.now told.now) }
-        ensures left { FailsDeed result self.old self.new (asks self.old act.now told.now) }
     {
         ask(alloc, &mut self.book, &mut self.worker, act, told, text)
     }
@@ -75,7 +73,6 @@ impl<'p, T: Table> Session<'p, T> {
     ) -> Result<(), AllocError>
         ensures reply { TellsDeed result text.old text.new (split_deed self.old level option) }
         ensures session { DoesDeed result self.old self.new (split_deed self.old level option) }
-        ensures left { FailsDeed result self.old self.new (split_deed self.old level option) }
     {
         // Copied, since the act shortens it, and the line tells what was cut off.
         let Some(before) = self.branch()? else {
@@ -107,7 +104,6 @@ impl<'p, T: Table> Session<'p, T> {
     ) -> Result<(), AllocError>
         ensures reply { TellsDeed result text.old text.new (hold_by self.old lo.entry) }
         ensures session { DoesDeed result self.old self.new (hold_by self.old lo.entry) }
-        ensures left { FailsDeed result self.old self.new (hold_by self.old lo.entry) }
     {
         let Some(place) = self.seek(lo) else {
             return write_book_fault(text, &BookFault::UnknownBranch);
@@ -127,7 +123,6 @@ impl<'p, T: Table> Session<'p, T> {
     ) -> Result<(), AllocError>
         ensures reply { TellsDeed result text.old text.new (put_back_by self.old lo.entry state.now) }
         ensures session { DoesDeed result self.old self.new (put_back_by self.old lo.entry state.now) }
-        ensures left { FailsDeed result self.old self.new (put_back_by self.old lo.entry state.now) }
     {
         let Some(place) = self.seek(lo) else {
             return write_book_fault(text, &BookFault::UnknownBranch);
@@ -146,7 +141,6 @@ impl<'p, T: Table> Session<'p, T> {
     ) -> Result<(), AllocError>
         ensures reply { TellsDeed result text.old text.new (enter_by self.old lo.entry) }
         ensures session { DoesDeed result self.old self.new (enter_by self.old lo.entry) }
-        ensures left { FailsDeed result self.old self.new (enter_by self.old lo.entry) }
     {
         // Before the cut is looked for: a branch that is open is refused whatever cut is named.
         if self.is_open() {

@@ -12,8 +12,8 @@ ghost use Rattle.x_debug.specs.Commands.{Replies};
 
 use crate::session::{Reply, Session};
 use cover_problem::{Problem, Table};
+use debug_acts::write_book_fault;
 use debug_language::{write_at, write_snapshot_fault};
-use debug_views::write_book_fault;
 use indexmap::IndexSet;
 use lab_book::{Book, BookFault};
 use lab_world::Worker;

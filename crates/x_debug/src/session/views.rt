@@ -4,8 +4,8 @@ ghost use Rattle.x_debug.specs.Questions.{runner_of, branch_shown, branch_untrie
 
 use crate::session::Session;
 use cover_problem::Table;
+use debug_acts::{branches, show, untried, write_posted};
 use debug_language::{Counted, DebugFault, Question, write_counted, write_debug_fault};
-use debug_views::{branches, show, untried, write_posted};
 use std::alloc::AllocError;
 use x_texts::write_levels;
 

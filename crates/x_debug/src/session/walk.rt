@@ -1,6 +1,6 @@
 //! Steps on the branch that is open.
 ghost use Rattle.std.specs.Prelude.{◌<◌};
-ghost use Rattle.x_debug.specs.Commands.{step_deed, run_deed, back_deed, TellsDeed, DoesDeed, FailsDeed};
+ghost use Rattle.x_debug.specs.Commands.{step_deed, run_deed, back_deed, TellsDeed, DoesDeed};
 
 use crate::session::Session;
 use cover_problem::Table;
@@ -14,7 +14,6 @@ impl<'p, T: Table> Session<'p, T> {
         requires { 0 < most }
         ensures reply { TellsDeed result text.old text.new (step_deed self.old most) }
         ensures session { DoesDeed result self.old self.new (step_deed self.old most) }
-        ensures left { FailsDeed result self.old self.new (step_deed self.old most) }
     {
         let Some(worker) = &mut self.worker else {
             return write_debug_fault(text, DebugFault::NoBranch);
@@ -26,7 +25,6 @@ impl<'p, T: Table> Session<'p, T> {
     pub(super) fn obey_run(&mut self, text: &mut Vec<u8>) -> Result<(), AllocError>
         ensures reply { TellsDeed result text.old text.new (run_deed self.old) }
         ensures session { DoesDeed result self.old self.new (run_deed self.old) }
-        ensures left { FailsDeed result self.old self.new (run_deed self.old) }
     {
         let Some(worker) = &mut self.worker else {
             return write_debug_fault(text, DebugFault::NoBranch);
@@ -39,7 +37,6 @@ impl<'p, T: Table> Session<'p, T> {
         requires { 0 < most }
         ensures reply { TellsDeed result text.old text.new (back_deed self.old most) }
         ensures session { DoesDeed result self.old self.new (back_deed self.old most) }
-        ensures left { FailsDeed result self.old self.new (back_deed self.old most) }
     {
         let Some(worker) = &mut self.worker else {
             return write_debug_fault(text, DebugFault::NoBranch);

@@ -1,4 +1,4 @@
-use Rattle.std.proofs.Common.{refl, arith}
+use Rattle.std.proofs.Common.{arith}
 use Rattle.debug_acts.proofs.FarLemmas.{one_can}
 use Rattle.debug_acts.proofs.walk.walk_far.Goals as goal
 

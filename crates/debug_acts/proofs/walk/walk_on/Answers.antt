@@ -1,7 +1,7 @@
 use Rattle.std.proofs.Common.{◌-◌, Some, length, subst, sym, arith, le_refl}
 use Rattle.x_branches.specs.Runner.{IsRunner}
 use Rattle.lab_world.specs.Worker.{WorkerValue}
-use Rattle.debug_views.proofs.CallLemmas.{on_err}
+use Rattle.debug_acts.proofs.LineLemmas.{on_err}
 use Rattle.debug_acts.specs.Walk.{steps_ahead, step_count}
 use Rattle.debug_acts.specs.Acts.{room_acts, WalksPart}
 use Rattle.debug_acts.proofs.CountLemmas.{least_both}

@@ -4,8 +4,8 @@ use Rattle.text_lines.specs.Writing.{text_of}
 use Rattle.x_branches.specs.Runner.{IsRunner}
 use Rattle.debug_language.specs.declared.fault.DebugFault.TheVariants.{AtEnd}
 use Rattle.x_snapshot.proofs.PositionLemmas.{on_ok as when_ok}
-use Rattle.debug_views.specs.Lines.{debug_refusal}
-use Rattle.debug_views.proofs.CallLemmas.{answered}
+use Rattle.debug_acts.specs.Lines.{debug_refusal}
+use Rattle.debug_acts.proofs.LineLemmas.{answered}
 use Rattle.debug_acts.specs.Walk.{run_count, stop_line}
 use Rattle.debug_acts.proofs.ForwardLemmas.{some_ahead}
 use Rattle.debug_acts.proofs.WorkLemmas.{work, IsWork, can_walk}

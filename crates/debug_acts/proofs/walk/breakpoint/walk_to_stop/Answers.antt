@@ -2,9 +2,8 @@ use Rattle.std.proofs.Common.{◌≡◌, ◌+◌, ◌<◌, ◌^◌, Some, List, 
 use Rattle.std.proofs.lemmas.Bool.{false≢true}
 use Rattle.x_branches.specs.Runner.{RunnerValue, IsRunner, unposted_steps}
 use Rattle.lab_history.specs.declared.entry.Entry.{Entry}
-use Rattle.debug_views.specs.Breakpoints.{first_met}
+use Rattle.debug_acts.specs.Breakpoints.{first_met}
 use Rattle.debug_acts.specs.Walk.{AreSomeSteps, step_count, stride}
-use Rattle.debug_acts.specs.Acts.{WalksPart}
 use Rattle.debug_acts.proofs.WorkLemmas.{work}
 use Rattle.debug_acts.proofs.LeadLemmas.{plays_err}
 use Rattle.debug_acts.proofs.WalkedLemmas.{Walked, walked_join, fewer_left, seat_on, read_end, ahead_of, few, counted_leads, counted_text}

@@ -5,8 +5,8 @@ use Rattle.x_branches.specs.Runner.{IsRunner}
 use Rattle.debug_language.specs.declared.fault.DebugFault.TheVariants.{AtEnd}
 use Rattle.debug_language.specs.declared.words.Plain.TheVariants.{End}
 use Rattle.x_snapshot.proofs.PositionLemmas.{on_ok as when_ok}
-use Rattle.debug_views.specs.Lines.{plain, debug_refusal}
-use Rattle.debug_views.proofs.CallLemmas.{answered}
+use Rattle.debug_acts.specs.Lines.{plain, debug_refusal}
+use Rattle.debug_acts.proofs.LineLemmas.{answered}
 use Rattle.debug_acts.specs.Walk.{step_count}
 use Rattle.debug_acts.proofs.WorkLemmas.{work, IsWork}
 use Rattle.debug_acts.proofs.LeadLemmas.{came_to, plays_all, plays_err}

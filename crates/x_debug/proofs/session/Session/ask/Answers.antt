@@ -12,10 +12,4 @@ pub returns-clause-session : goal.returns-clause-session
 returns-clause-session g c =
     rw (← c.self.view_is)
     (plays_left c.ask.result (record { book = c.self.inside.book; worker = c.self.inside.worker; breaks = c.self.inside.breaks.keys })
-    (c.args.act.now ∷ []) 1 c.ask.new.book c.ask.new.seat c.ask.ensures.acts).0
-
-pub returns-clause-left : goal.returns-clause-left
-returns-clause-left g c =
-    rw (← c.self.view_is)
-    (plays_left c.ask.result (record { book = c.self.inside.book; worker = c.self.inside.worker; breaks = c.self.inside.breaks.keys })
-    (c.args.act.now ∷ []) 1 c.ask.new.book c.ask.new.seat c.ask.ensures.acts).1
+    (c.args.act.now ∷ []) 1 c.ask.new.book c.ask.new.seat c.ask.ensures.acts)

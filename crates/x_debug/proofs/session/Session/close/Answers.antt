@@ -4,7 +4,7 @@ use Rattle.debug_acts.specs.Acts.{close_acts}
 use Rattle.debug_acts.specs.Ends.{close_line}
 use Rattle.x_debug.specs.Commands.{ends}
 use Rattle.debug_acts.proofs.LeadLemmas.{plays_problem}
-use Rattle.x_debug.proofs.SessionLemmas.{changed_session, plays_left, open_is, does_same, fails_same, tells_same}
+use Rattle.x_debug.proofs.SessionLemmas.{changed_session, plays_left, open_is, does_same, tells_same}
 use Rattle.x_debug.proofs.session.Session.close.Goals as goal
 
 pub invariant_of-self : goal.invariant_of-self
@@ -26,13 +26,4 @@ returns-clause-session g c =
     does_same c.close.result s _ d _ (sym (open_is s (λ w. d) d c.requires (λ w e. refl)))
     (rw (← c.self.view_is)
     (plays_left c.close.result (record { book = c.self.inside.book; worker = c.self.inside.worker; breaks = c.self.inside.breaks.keys })
-    (close_acts c.self.inside.worker) (length (close_acts c.self.inside.worker) - 1) c.close.new.book c.close.new.seat c.close.ensures.acts).0)
-
-pub returns-clause-left : goal.returns-clause-left
-returns-clause-left g c =
-    let s = c.args.self.now in
-    let d = ends s (line_text (close_line s.worker)) (close_acts s.worker) in
-    fails_same c.close.result s _ d _ (sym (open_is s (λ w. d) d c.requires (λ w e. refl)))
-    (rw (← c.self.view_is)
-    (plays_left c.close.result (record { book = c.self.inside.book; worker = c.self.inside.worker; breaks = c.self.inside.breaks.keys })
-    (close_acts c.self.inside.worker) (length (close_acts c.self.inside.worker) - 1) c.close.new.book c.close.new.seat c.close.ensures.acts).1)
+    (close_acts c.self.inside.worker) (length (close_acts c.self.inside.worker) - 1) c.close.new.book c.close.new.seat c.close.ensures.acts))

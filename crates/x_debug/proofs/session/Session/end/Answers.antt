@@ -9,14 +9,8 @@ invariant_of-self g c =
     changed_session (record { book = c.self.inside.book; worker = c.self.inside.worker; breaks = c.self.inside.breaks.keys })
     c.end_branch.new.book c.end_branch.new.seat c.self.invariant (plays_problem c.end_branch.result c.self.inside.book c.end_branch.new.book c.self.inside.worker c.end_branch.new.seat _ _ c.end_branch.ensures.acts) c.end_branch.ensures.seat
 
-pub returns-clause-session : goal.returns-clause-session
-returns-clause-session g c =
+pub returns : goal.returns
+returns g c =
     rw (← c.self.view_is)
     (plays_left c.end_branch.result (record { book = c.self.inside.book; worker = c.self.inside.worker; breaks = c.self.inside.breaks.keys })
-    (end_acts c.self.inside.worker c.args.act.now) (length (end_acts c.self.inside.worker c.args.act.now) - 1) c.end_branch.new.book c.end_branch.new.seat c.end_branch.ensures.acts).0
-
-pub returns-clause-left : goal.returns-clause-left
-returns-clause-left g c =
-    rw (← c.self.view_is)
-    (plays_left c.end_branch.result (record { book = c.self.inside.book; worker = c.self.inside.worker; breaks = c.self.inside.breaks.keys })
-    (end_acts c.self.inside.worker c.args.act.now) (length (end_acts c.self.inside.worker c.args.act.now) - 1) c.end_branch.new.book c.end_branch.new.seat c.end_branch.ensures.acts).1
+    (end_acts c.self.inside.worker c.args.act.now) (length (end_acts c.self.inside.worker c.args.act.now) - 1) c.end_branch.new.book c.end_branch.new.seat c.end_branch.ensures.acts)

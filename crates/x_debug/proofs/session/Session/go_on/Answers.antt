@@ -2,10 +2,10 @@ use Rattle.std.proofs.Common.{◌≡◌, ℕ, List, ◌++◌, sym, ap, ◌∙◌
 use Rattle.text_lines.specs.Writing.{line_text}
 use Rattle.cover_problem.specs.Problem.{ProblemValue}
 use Rattle.x_snapshot.specs.Judged.{judged_parts}
-use Rattle.debug_views.specs.Lines.{state_line}
+use Rattle.debug_acts.specs.Lines.{state_line}
 use Rattle.x_debug.specs.Session.{SessionValue}
 use Rattle.x_debug.specs.LoadedTexts.{loaded, answers, load_by}
-use Rattle.debug_views.proofs.CallLemmas.{on_ok}
+use Rattle.debug_acts.proofs.LineLemmas.{on_ok}
 use Rattle.x_debug.proofs.LoadLemmas.{resumed_answer, said, left, none_said, none_left}
 use Rattle.x_debug.proofs.session.Session.go_on.Goals as goal
 

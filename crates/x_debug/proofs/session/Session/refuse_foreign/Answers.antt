@@ -1,7 +1,7 @@
 use Rattle.std.proofs.Common.{refl, ap, ◌∙◌}
 use Rattle.lab_history.specs.declared.fault.BookFault.TheVariants.{ForeignProblem}
-use Rattle.debug_views.specs.Lines.{book_refusal}
-use Rattle.debug_views.proofs.CallLemmas.{on_ok}
+use Rattle.debug_acts.specs.Lines.{book_refusal}
+use Rattle.debug_acts.proofs.LineLemmas.{on_ok}
 use Rattle.x_snapshot.specs.Judged.{judged_parts}
 use Rattle.x_debug.specs.LoadedTexts.{answers, load_by}
 use Rattle.x_debug.proofs.LoadLemmas.{foreign_answer, said, left, none_said, none_left}

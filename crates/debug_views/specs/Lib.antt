@@ -1,4 +1,0 @@
-pub mod Lines
-pub mod Breakpoints
-pub mod Overview
-pub mod Tiles

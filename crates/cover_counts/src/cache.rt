@@ -64,9 +64,9 @@ fn mark_of(key: &[u64]) -> u64 {
     mark
 }
 
-/// The first of `entries` entries that a set with this mark may have.
-fn home_of(mark: u64, entries: usize) -> usize {
-    ((mark as u128 * entries as u128) >> 64) as usize
+/// The one of `many` numbers that this mark has.
+fn home_of(mark: u64, many: usize) -> usize {
+    ((mark as u128 * many as u128) >> 64) as usize
 }
 
 /// Whether an entry is empty or has this mark.
@@ -236,19 +236,36 @@ impl Cache {
         }
     }
 
+    /// Whether there is no room for a set of so many bytes at a place of its own.
+    fn is_full(&self, bytes: usize) -> bool {
+        let room = self.room.saturating_sub(self.used);
+        self.places.len() == self.places.capacity() || room < bytes
+    }
+
     /// Keeps a set at a place of its own, if there is room for it.
     fn add(&mut self, mark: u64, kept: Kept)
         ensures { StaySoundWith self.old.places.items self.new.places.items
             kept.key.items kept.below }
     {
         let place = self.places.len();
-        let used = self.used.saturating_add(kept.bytes());
-        if used <= self.room && place < self.places.capacity() {
-            if self.places.push(Some(kept)).is_ok() {
-                self.used = used;
-                note(&mut self.entries, mark, place);
-            }
+        let bytes = kept.bytes();
+        if self.is_full(bytes) {
+            return;
         }
+        if self.places.push(Some(kept)).is_ok() {
+            self.used = self.used.saturating_add(bytes);
+            note(&mut self.entries, mark, place);
+        }
+    }
+
+    /// The place for a set of so many bytes: the one that its entry tells. If that is none and the cache is full, the mark chooses one, since
+    /// later sets are asked for sooner than earlier ones.
+    fn place_for(&self, mark: u64, bytes: usize) -> usize {
+        let place = place_of(&self.entries, mark);
+        if place == NOWHERE && self.is_full(bytes) {
+            return home_of(mark, self.places.len());
+        }
+        place
     }
 
     /// Doubles the entries, if there is memory and room for them and their places.
@@ -283,8 +300,8 @@ impl Cache {
             self.grow();
         }
         let mark = mark_of(&key);
-        let place = place_of(&self.entries, mark);
         let kept = Kept { key, below };
+        let place = self.place_for(mark, kept.bytes());
         if place < self.places.len() {
             self.replace(place, mark, kept);
         } else {

@@ -8,11 +8,11 @@ use Rattle.text_lines.specs.Numbers.{number_within}
 use Rattle.x_snapshot.specs.Reader.{only, option_number, positive}
 use Rattle.lab_pool.specs.Pool.{IsBadCount}
 use Rattle.debug_language.specs.declared.engine.EngineCommand.TheVariants as engine
-use Rattle.debug_script.specs.declared.fault.RepliesFault.{RepliesFault}
-use Rattle.debug_script.specs.declared.fault.RepliesFault.TheVariants as faults
+use Rattle.debug_script.specs.declared.fault.JobFault.{JobFault}
+use Rattle.debug_script.specs.declared.fault.JobFault.TheVariants as faults
 use Rattle.x_debug.specs.Session.{SessionValue}
 use Rattle.debug_script.specs.Input.{raw_lines, without_newline}
-use Rattle.debug_script.specs.Refusals.{MayRefuse, MayEnd, IsWantOr, IsWantOrAsked, asks_for_workers, has_pool}
+use Rattle.debug_script.specs.Refusals.{MayRefuse, MayEnd, IsWantOrPool, IsWantOrAsked, asks_for_workers, has_pool}
 use Rattle.debug_script.specs.Replies.{exchange}
 use Rattle.debug_language.specs.Reader.{most_number, number_from, count_from, workers, load_from, pool_from, engine_from, engine_command_of}
 
@@ -66,7 +66,7 @@ words_count (key ∷ words) n h = by (bytes_eq key (codes "load")) (bytes_eq key
     by false false true false h = absurd (cc)
     by false false false empty h = absurd (cc)
 
-may_end : (n : ℕ) → (0 < n) × (n ≤ 32) → (f : RepliesFault) → IsWantOr (MayRefuse n) f → IsWantOr MayEnd f
+may_end : (n : ℕ) → (0 < n) × (n ≤ 32) → (f : JobFault) → IsWantOrPool (MayRefuse n) f → IsWantOrPool MayEnd f
 may_end n count faults.OutOfMemory h = h
 may_end n count (faults.Pool fault) h = record { not_number = λ e. no (h.number.0 e); not_held = h.not_held }
   where
@@ -75,8 +75,8 @@ may_end n count (faults.Pool fault) h = record { not_number = λ e. no (h.number
     no (inr l) = let a = count.1 in omega arith
 
 -- a search that a command asks for, by 1 to 32 workers, ends commands with a fault that may be
-pub command_may_end : (line : List ℕ) (n : ℕ) → engine_command_of line ≡ Some (engine.Pool n) → (f : RepliesFault) → IsWantOr (MayRefuse n) f
-    → IsWantOr MayEnd f
+pub command_may_end : (line : List ℕ) (n : ℕ) → engine_command_of line ≡ Some (engine.Pool n) → (f : JobFault) → IsWantOrPool (MayRefuse n) f
+    → IsWantOrPool MayEnd f
 command_may_end line n h = may_end n (words_count _ n h)
 
 -- an error that is passed on is what the call that was refused answered
@@ -85,12 +85,12 @@ passed_on P f (Ok x) h p = tt
 passed_on P f (Err e) h p = subst P (sym h) p
 
 -- a raw line that asks for workers
-pub asked_by : (raw : List ℕ) (n : ℕ) → engine_command_of (without_newline raw) ≡ Some (engine.Pool n) → (f : RepliesFault) → IsWantOrAsked (raw ∷ []) f
+pub asked_by : (raw : List ℕ) (n : ℕ) → engine_command_of (without_newline raw) ≡ Some (engine.Pool n) → (f : JobFault) → IsWantOrAsked (raw ∷ []) f
 asked_by raw n h faults.OutOfMemory = tt
 asked_by raw n h (faults.Pool fault) = ap (λ o. asks_for_workers o || false) h
 
 -- the first of these lines asks for workers
-pub asked_among : (raw : List ℕ) (lines after all : List (List ℕ)) → lines ≡ raw ∷ after → (has_pool lines ≡ true → has_pool all ≡ true) → (f : RepliesFault)
+pub asked_among : (raw : List ℕ) (lines after all : List (List ℕ)) → lines ≡ raw ∷ after → (has_pool lines ≡ true → has_pool all ≡ true) → (f : JobFault)
     → IsWantOrAsked (raw ∷ []) f → IsWantOrAsked all f
 asked_among raw lines after all e of faults.OutOfMemory h = tt
 asked_among raw lines after all e of (faults.Pool fault) h = of (ap has_pool e ∙ first (asks_for_workers (engine_command_of (without_newline raw))) h)

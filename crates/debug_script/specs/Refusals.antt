@@ -8,8 +8,8 @@ use Rattle.std.specs.List.{list_any}
 use Rattle.lab_pool.specs.declared.fault.PoolFault.{PoolFault}
 use Rattle.lab_pool.specs.declared.fault.PoolFault.TheVariants.{BadWorkerCount, Held}
 use Rattle.lab_pool.specs.Pool.{IsBadCount}
-use Rattle.debug_script.specs.declared.fault.RepliesFault.{RepliesFault}
-use Rattle.debug_script.specs.declared.fault.RepliesFault.TheVariants as faults
+use Rattle.debug_script.specs.declared.fault.JobFault.{JobFault}
+use Rattle.debug_script.specs.declared.fault.JobFault.TheVariants as faults
 use Rattle.debug_language.specs.declared.engine.EngineCommand.{EngineCommand}
 use Rattle.debug_language.specs.declared.engine.EngineCommand.TheVariants as engine
 use Rattle.debug_language.specs.Reader.{engine_command_of}
@@ -26,9 +26,9 @@ pub record MayEnd (fault : PoolFault) : Type 0 where
   pub not_held : fault ≡ Held → ⊥
 
 -- memory ran out, or a search was refused with a fault that may be
-abbrev pub IsWantOr : (PoolFault → Type 0) → RepliesFault → Type 0
-IsWantOr May faults.OutOfMemory = ⊤
-IsWantOr May (faults.Pool fault) = May fault
+abbrev pub IsWantOrPool : (PoolFault → Type 0) → JobFault → Type 0
+IsWantOrPool May faults.OutOfMemory = ⊤
+IsWantOrPool May (faults.Pool fault) = May fault
 
 -- a command asks for a search by workers
 abbrev pub asks_for_workers : Option EngineCommand → Bool
@@ -40,6 +40,6 @@ abbrev pub has_pool : List (List ℕ) → Bool
 has_pool lines = list_any (λ raw. asks_for_workers (engine_command_of (without_newline raw))) lines
 
 -- memory ran out, or one of these raw lines asks for the workers whose fault it is
-abbrev pub IsWantOrAsked : List (List ℕ) → RepliesFault → Type 0
+abbrev pub IsWantOrAsked : List (List ℕ) → JobFault → Type 0
 IsWantOrAsked lines faults.OutOfMemory = ⊤
 IsWantOrAsked lines (faults.Pool fault) = has_pool lines ≡ true

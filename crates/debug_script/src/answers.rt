@@ -4,11 +4,11 @@ ghost use Rattle.shared_words.specs.Answers.{ReturnsItems};
 ghost use Rattle.x_debug.specs.Session.{fresh_session};
 ghost use Rattle.debug_script.specs.Alike.{SaysAlike, StaysAlike};
 ghost use Rattle.debug_script.specs.Input.{raw_lines};
-ghost use Rattle.debug_script.specs.Refusals.{IsWantOr, IsWantOrAsked, MayEnd};
+ghost use Rattle.debug_script.specs.Refusals.{IsWantOrPool, IsWantOrAsked, MayEnd};
 ghost use Rattle.debug_script.specs.Replies.{said_to, session_left, Leaves, IsNoLonger, AnswersAlike, replies_to};
 ghost use Rattle.text_lines.specs.Writes.{Writes};
 
-use crate::fault::RepliesFault;
+use crate::fault::JobFault;
 use crate::input::{raw_line, take_lines, without_newline};
 use crate::workers::pool;
 use cover_problem::{Problem, Table};
@@ -42,12 +42,12 @@ fn exchange<'p, 'a, T: Table + Send + Sync, R: Threads + Wait + Sync, G: Gate>(
     raw: &[u8],
     after: &'a [u8],
     text: &mut Vec<u8>,
-) -> Result<(Session<'p, T>, Option<&'a [u8]>), RepliesFault>
+) -> Result<(Session<'p, T>, Option<&'a [u8]>), JobFault>
     ensures text { SaysAlike result text.old text.new session.entry (said_to raw.now after.now) }
     ensures session { IfOk result (λ r. StaysAlike session.entry r.0 (session_left raw.now after.now)) }
     ensures left { IfOk result (λ r. Leaves raw.now after.now r.1) }
     ensures no_longer { IfOk result (λ r. IsNoLonger r.1 after.now) }
-    ensures why { IfErr result (IsWantOr MayEnd) }
+    ensures why { IfErr result (IsWantOrPool MayEnd) }
     ensures asked { IfErr result (IsWantOrAsked (raw.now ∷ [])) }
 {
     // By value: `pool` takes the book out of it, and another session goes on.
@@ -81,9 +81,9 @@ fn answer_lines<T: Table + Send + Sync, R: Threads + Wait + Sync, G: Gate>(
     session: Session<'_, T>,
     commands: &[u8],
     text: &mut Vec<u8>,
-) -> Result<(), RepliesFault>
+) -> Result<(), JobFault>
     ensures text { AnswersAlike result text.old text.new session.entry commands.now }
-    ensures why { IfErr result (IsWantOr MayEnd) }
+    ensures why { IfErr result (IsWantOrPool MayEnd) }
     ensures asked { IfErr result (IsWantOrAsked (raw_lines commands.now)) }
 {
     let mut session = session;
@@ -109,9 +109,9 @@ pub fn replies<T: Table + Send + Sync, R: Threads + Wait + Sync, G: Gate>(
     problem: &Problem,
     commands: &[u8],
     gate: &G,
-) -> Result<Vec<u8>, RepliesFault>
+) -> Result<Vec<u8>, JobFault>
     ensures text { ReturnsItems result (replies_to (fresh_session problem.now) commands.now) }
-    ensures why { IfErr result (IsWantOr MayEnd) }
+    ensures why { IfErr result (IsWantOrPool MayEnd) }
     ensures asked { IfErr result (IsWantOrAsked (raw_lines commands.now)) }
 {
     let session = Session::<T>::new(alloc, problem)?;

@@ -8,5 +8,5 @@ pub mod laws;
 mod workers;
 
 pub use answers::replies;
-pub use fault::RepliesFault;
+pub use fault::JobFault;
 pub use input::{raw_line, split_input, take_lines, without_newline};

@@ -7,11 +7,11 @@ ghost use Rattle.lab_book_laws.specs.Searched.{IsSearched};
 ghost use Rattle.debug_acts.specs.Lines.{debug_refusal};
 ghost use Rattle.debug_script.specs.Alike.{SaysAlike, StaysAlike};
 ghost use Rattle.debug_script.specs.PoolAnswer.{none_held, pool_words, pool_said, pool_left};
-ghost use Rattle.debug_script.specs.Refusals.{MayRefuse, IsWantOr};
+ghost use Rattle.debug_script.specs.Refusals.{MayRefuse, IsWantOrPool};
 ghost use Rattle.text_lines.specs.Writes.{AddsLine};
 
 use crate::answers::append;
-use crate::fault::RepliesFault;
+use crate::fault::JobFault;
 use cover_problem::Table;
 use debug_language::{DebugFault, write_debug_fault};
 use lab_book::Book;
@@ -54,12 +54,12 @@ fn search<'p, T: Table + Send + Sync, R: Threads + Wait + Sync, G: Gate>(
     book: Book<'p>,
     workers: u32,
     gate: &G,
-) -> Result<(Book<'p>, bool), RepliesFault>
+) -> Result<(Book<'p>, bool), JobFault>
     requires free { leased_in book.tiles ≡ 0 }
     ensures searched { IfOk result (λ r. IsSearched book.entry r.0) }
     ensures tiling { IfOk result (λ r. IsTiling r.0.problem r.0.branch r.0.first r.0.tiles) }
     ensures all { IfOk result (λ r. r.1 ≡ none_held book.entry) }
-    ensures why { IfErr result (IsWantOr (MayRefuse workers)) }
+    ensures why { IfErr result (IsWantOrPool (MayRefuse workers)) }
 {
     match run_pool_on::<T, R, G>(rt, alloc, book, workers, gate) {
         Ok(book) => {
@@ -76,7 +76,7 @@ fn search<'p, T: Table + Send + Sync, R: Threads + Wait + Sync, G: Gate>(
             book.is_sound();
             Ok((book, false))
         }
-        Err(refused) => Err(RepliesFault::Pool(refused.fault)),
+        Err(refused) => Err(JobFault::Pool(refused.fault)),
     }
 }
 
@@ -89,10 +89,10 @@ pub(crate) fn pool<'p, T: Table + Send + Sync, R: Threads + Wait + Sync, G: Gate
     workers: u32,
     gate: &G,
     text: &mut Vec<u8>,
-) -> Result<Session<'p, T>, RepliesFault>
+) -> Result<Session<'p, T>, JobFault>
     ensures text { SaysAlike result text.old text.new session.entry pool_said }
     ensures session { IfOk result (λ s. StaysAlike session.entry s pool_left) }
-    ensures why { IfErr result (IsWantOr (MayRefuse workers)) }
+    ensures why { IfErr result (IsWantOrPool (MayRefuse workers)) }
 {
     // The book tells it: a session leases no tile but that of its branch.
     if has_leased(session.book()) {

@@ -15,11 +15,10 @@ use Rattle.x_branches.specs.Cut.{cut_state}
 use Rattle.byte_streams.specs.Stream.{Stream, Takes}
 use Rattle.lab_book.specs.Book.{outcome}
 use Rattle.lab_pool.specs.declared.fault.PoolFault.{PoolFault}
-use Rattle.lab_pool.specs.declared.fault.PoolFault.TheVariants.{BadWorkerCount, Held}
+use Rattle.lab_pool.specs.declared.fault.PoolFault.TheVariants.{BadWorkerCount}
 use Rattle.debug_language.specs.Reader.{command_from, engine_from}
 use Rattle.x_debug.specs.Questions.{question_lines}
 use Rattle.x_debug.specs.Commands.{deed_of}
-use Rattle.debug_script.specs.declared.fault.RepliesFault.TheVariants as replies
 use Rattle.debug_script.specs.Input.{command_lines}
 use Rattle.debug_script.specs.Refusals.{has_pool}
 use Rattle.debug_script.specs.Replies.{exchange, debug_replies}
@@ -28,11 +27,10 @@ use Rattle.polylab_engine.specs.declared.job.CoverJob.TheVariants as cover_jobs
 use Rattle.polylab_engine.specs.declared.job.PuzzleJob.TheVariants as puzzle_jobs
 use Rattle.polylab_engine.specs.Jobs.{is_first, takes_commands}
 use Rattle.polylab_engine.specs.Refusals.{pool_faults}
-use Rattle.polylab_engine.specs.declared.fault.JobFault.TheVariants as faults
 use Rattle.polylab_engine.specs.declared.engine.RunEnding.TheVariants as endings
 use Rattle.polylab_engine.specs.Account.{account_of, report_of, AreSums, PassesBlock}
 use Rattle.polylab_engine.specs.Stretch.{end_at, steps_taken}
-use Rattle.polylab_engine.specs.Debugged.{debug_output, job_fault}
+use Rattle.polylab_engine.specs.Debugged.{debug_output}
 use Rattle.polylab_engine.specs.Ending.{IsTold, status_of}
 use Rattle.poly_place.specs.Listing.{AreExactCovers}
 
@@ -94,9 +92,6 @@ none_asked = refl
 replied : debug_output ((codes "branches" ++ 10 ∷ []) ∷ []) small ≡ codes "branch start to end leased" ++ 10 ∷ []
 unfolding debug_output debug_replies exchange engine_from command_from deed_of question_lines outcome
 replied = refl
-
-pool_failed : job_fault (replies.Pool Held) ≡ faults.Pool Held
-pool_failed = refl
 
 -- ---- specs/Ending.antt
 

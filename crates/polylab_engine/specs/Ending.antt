@@ -9,8 +9,8 @@ use Rattle.std.specs.Io.KnownBytes.{Appends}
 use Rattle.byte_streams.specs.Stream.{Stream, IsSound, HasFailed, Stays, TakesAll, TakesPart, Takes}
 use Rattle.byte_streams.specs.Input.{GoesPastLimit, most_input}
 use Rattle.lab_pool.specs.declared.fault.PoolFault.{PoolFault}
-use Rattle.polylab_engine.specs.declared.fault.JobFault.{JobFault}
-use Rattle.polylab_engine.specs.declared.fault.JobFault.TheVariants as faults
+use Rattle.debug_script.specs.declared.fault.JobFault.{JobFault}
+use Rattle.debug_script.specs.declared.fault.JobFault.TheVariants as faults
 use Rattle.polylab_engine.specs.declared.job.Job.{Job}
 use Rattle.polylab_engine.specs.declared.engine.RunEnding.{RunEnding}
 use Rattle.polylab_engine.specs.declared.engine.RunEnding.TheVariants.{Written, Refused, OutOfMemory, Pool, Unread, Unwritten}

@@ -19,7 +19,7 @@ use Rattle.polylab_engine.specs.declared.job.TextKind.TheVariants as kinds
 use Rattle.polylab_engine.specs.declared.answer.NoText.{NoText}
 use Rattle.polylab_engine.specs.declared.answer.NoText.TheVariants.{Refused}
 use Rattle.polylab_engine.specs.declared.answer.NoText.TheVariants as no_texts
-use Rattle.polylab_engine.specs.declared.fault.JobFault.TheVariants.{OutOfMemory}
+use Rattle.debug_script.specs.declared.fault.JobFault.TheVariants.{OutOfMemory}
 use Rattle.poly_texts.specs.declared.fault.Fault as puzzle
 use Rattle.poly_texts.specs.Faults as puzzle_faults
 use Rattle.poly_texts.specs.Puzzle.{PuzzleValue}

@@ -7,9 +7,7 @@ use Rattle.byte_streams.specs.Stream.{Stream, Takes}
 use Rattle.byte_streams.specs.Input.{IsAllOf}
 use Rattle.lab_pool.specs.declared.fault.PoolFault.{PoolFault}
 use Rattle.debug_script.specs.Input.{command_lines}
-use Rattle.debug_script.specs.Refusals.{MayEnd, has_pool}
-use Rattle.polylab_engine.specs.declared.fault.JobFault.{JobFault}
-use Rattle.polylab_engine.specs.declared.fault.JobFault.TheVariants.{OutOfMemory, Pool}
+use Rattle.debug_script.specs.Refusals.{MayEnd, has_pool, IsWantOrPool}
 use Rattle.polylab_engine.specs.declared.job.Job.{Job}
 use Rattle.polylab_engine.specs.declared.job.Job.TheVariants as jobs
 use Rattle.polylab_engine.specs.declared.job.CoverJob.{CoverJob}
@@ -21,11 +19,6 @@ use Rattle.polylab_engine.specs.declared.answer.NoText.TheVariants as no_texts
 use Rattle.polylab_engine.specs.declared.engine.RunEnding.{RunEnding}
 use Rattle.polylab_engine.specs.declared.engine.RunEnding.TheVariants as endings
 use Rattle.polylab_engine.specs.Outcome.{no_memory, pool_refusal}
-
--- a fault is want of memory, or a fault of workers that may be
-abbrev pub IsWantOrPool : (PoolFault → Type 0) → JobFault → Type 0
-IsWantOrPool May OutOfMemory = ⊤
-IsWantOrPool May (Pool fault) = May fault
 
 -- no fault of workers
 abbrev pub NoPool : PoolFault → Type 0

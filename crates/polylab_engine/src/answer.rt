@@ -16,7 +16,6 @@ ghost use Rattle.shared_words.specs.Answers.{ReturnsItems};
 
 use crate::classes::count_classes;
 use crate::cover::{count_covers, covers, first_covers};
-use crate::fault::JobFault;
 use crate::job::{CoverJob, Job, PuzzleJob};
 use crate::packed::{count, first_packings, options, solve};
 use crate::resumption::resume;
@@ -24,6 +23,7 @@ use crate::up_to::{count_up_to, options_up_to, solve_up_to};
 use crate::workers::Workers;
 use cover_problem::{CoverFault, Problem, read_cover};
 use debug_language::write_snapshot_fault;
+use debug_script::JobFault;
 use part_sums::{Counted, join};
 use poly_place::{Compiled, PlaceFault, compile};
 use poly_texts::{Puzzle, PuzzleFault, read_puzzle};
@@ -52,7 +52,7 @@ impl From<JobFault> for NoText {
 
 impl From<AllocError> for NoText {
     ghost use Rattle.polylab_engine.specs.declared.answer.NoText.TheVariants as no_texts;
-    ghost use Rattle.polylab_engine.specs.declared.fault.JobFault.TheVariants as faults;
+    ghost use Rattle.debug_script.specs.declared.fault.JobFault.TheVariants as faults;
 
     ghost from_gives = { λ _ e. e ≡ no_texts.Fault faults.OutOfMemory };
 

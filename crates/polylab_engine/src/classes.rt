@@ -1,16 +1,16 @@
 //! What `count --classes` writes.
 ghost use Rattle.std.specs.Prelude.{IfErr};
-ghost use Rattle.polylab_engine.specs.Refusals.{IsWantOrPool};
+ghost use Rattle.debug_script.specs.Refusals.{IsWantOrPool};
 ghost use Rattle.poly_place.specs.Packings.{packing_problem};
 ghost use Rattle.polylab_engine.specs.Classified.{packings_of, classes_output, lines_of_classes};
 ghost use Rattle.poly_place.specs.Listing.{AreExactCovers};
 ghost use Rattle.text_lines.specs.Writes.{AddsLines};
 ghost use Rattle.shared_words.specs.Answers.{ReturnsItems};
 
-use crate::fault::JobFault;
 use crate::packed::count_text;
 use crate::workers::Workers;
 use cover_problem::Lists;
+use debug_script::JobFault;
 use poly_place::{Compiled, Group, Packing, classes, packing_of};
 use std::alloc::{AllocError, Global};
 use text_lines::write_number_line;

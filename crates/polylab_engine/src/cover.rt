@@ -1,6 +1,6 @@
 //! What `cover` writes, with `--first` or `--count` and without.
 ghost use Rattle.std.specs.Prelude.{◌++◌, map, IfErr};
-ghost use Rattle.polylab_engine.specs.Refusals.{IsWantOrPool};
+ghost use Rattle.debug_script.specs.Refusals.{IsWantOrPool};
 ghost use Rattle.polylab_engine.specs.First.{cover_end, first_cover_output};
 ghost use Rattle.polylab_engine.specs.Output.{cover_output, cover_count_output, report_text};
 ghost use Rattle.text_lines.specs.Writing.{text_of};
@@ -8,12 +8,12 @@ ghost use Rattle.x_texts.specs.Words.{visit_words};
 ghost use Rattle.text_lines.specs.Writes.{AddsLines};
 ghost use Rattle.shared_words.specs.Answers.{ReturnsItems};
 
-use crate::fault::JobFault;
 use crate::report::Report;
 use crate::search::search_first;
 use crate::tables::TableKind;
 use crate::workers::Workers;
 use cover_problem::Problem;
+use debug_script::JobFault;
 use std::alloc::{AllocError, Global};
 use text_lines::write_number_line;
 use x_texts::VisitText;

@@ -6,7 +6,6 @@ ghost use Rattle.polylab_engine.specs.Outcome.{debug_outcome, packed_of, puzzle_
 ghost use Rattle.polylab_engine.specs.Refusals.{IsNoTextOf, MayEndBy, MayEndAt};
 
 use crate::answer::{NoText, compiled_of, problem_in, puzzle_in};
-use crate::fault::JobFault;
 use crate::job::TextKind;
 use cover_links::LinkTable;
 use cover_problem::Problem;
@@ -73,6 +72,6 @@ fn debug<R: Threads + Wait + Sync, G: Gate>(
     // The number of workers isn't asked of the words: it stands in each `pool`.
     match replies::<LinkTable, R, G>(rt, alloc, problem, commands, gate) {
         Ok(text) => Ok(text),
-        Err(fault) => Err(NoText::Fault(JobFault::from(fault))),
+        Err(fault) => Err(NoText::Fault(fault)),
     }
 }

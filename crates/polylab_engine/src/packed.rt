@@ -1,12 +1,11 @@
 //! What `solve`, `count` and `options` write.
-ghost use Rattle.polylab_engine.specs.Refusals.{IsWantOrPool};
+ghost use Rattle.debug_script.specs.Refusals.{IsWantOrPool};
 ghost use Rattle.std.specs.Prelude.{◌<◌, IfErr};
 ghost use Rattle.polylab_engine.specs.Packed.{solve_output, count_output, count_text, options_output};
 ghost use Rattle.polylab_engine.specs.First.{packings_end, first_packings_output};
 ghost use Rattle.text_lines.specs.Writing.{line_text};
 ghost use Rattle.shared_words.specs.Answers.{ReturnsItems, Adds};
 
-use crate::fault::JobFault;
 use crate::numbers::write_natural_line;
 use crate::report::Report;
 use crate::search::search_first;
@@ -14,6 +13,7 @@ use crate::tables::TableKind;
 use crate::workers::Workers;
 use cover_counts::Natural;
 use cover_problem::{Lists, write_cover};
+use debug_script::JobFault;
 use poly_place::{Compiled, write_packings};
 use std::alloc::{AllocError, Global};
 use text_lines::write_number_line;

@@ -126,8 +126,8 @@ fn walk_to_stop<V: Visits>(
     requires end { Fits (stands searcher.old).problem (end_at bounds.end.now) }
     requires not_past { ComesBefore (stands searcher.old).problem (end_at bounds.end.now) (stands searcher.old).state → ⊥ }
     requires empty { tally.old ≡ empty_account (length (stands searcher.old).problem.names) }
-    ensures stop { OnOk result
-        (StopsAt bounds.entry.first bounds.entry.most (stands searcher.old) bounds.entry.end.now tally.new.visited (stands searcher.new).state) }
+    ensures stop { OnOk result (StopsAt bounds.entry.first bounds.entry.most (stands searcher.old)
+        bounds.entry.end.now tally.new.visited (stands searcher.new).state) }
     ensures first { OnOk result (ForSome bounds.entry.first (λ n. tally.new.visited ≤ n)) }
     ensures soon { OnOk result (ForSome bounds.entry.first (λ n. HasFewerBefore (stands searcher.old) tally.new.steps n)) }
     ensures fits { OnOk result (Fits (stands searcher.old).problem (stands searcher.new).state) }

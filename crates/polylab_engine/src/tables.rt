@@ -64,7 +64,8 @@ fn bits_in_room(problem: &Problem, workers: u32) -> Option<TableKind>
     }
 }
 
-/// The table of a search by so many workers: the one that is asked for, or else the one that is preferred. None where bit sets are asked for and would take more memory than they may.
+/// The table of a search by so many workers: the one that is asked for, or else the one that is preferred. None where bit sets are asked
+/// for and would take more memory than they may.
 pub fn table_for(
     alloc: Global,
     problem: &Problem,

@@ -1,20 +1,20 @@
 //! Who takes a run.
 ghost use Rattle.shared_words.specs.Answers.{Returns};
 ghost use Rattle.polylab_engine.specs.Output.{whole_report};
-ghost use Rattle.polylab_engine.specs.Refusals.{IsWantOrPool, IsNoTextOf, MayEndBy, NoPool, pool_faults};
-ghost use Rattle.debug_script.specs.Refusals.{MayRefuse};
+ghost use Rattle.polylab_engine.specs.Refusals.{IsNoTextOf, MayEndBy, NoPool, pool_faults};
+ghost use Rattle.debug_script.specs.Refusals.{MayRefuse, IsWantOrPool};
 ghost use Rattle.polylab_engine.specs.Jobs.{takes_commands};
 ghost use Rattle.polylab_engine.specs.Outcome.{debug_outcome, HasOutcome};
 ghost use Rattle.std.specs.Prelude.{◌≡◌, true, false, IfErr};
 ghost use Rattle.lab_pool.specs.declared.fault.PoolFault.{PoolFault};
 
 use crate::answer::{Answering, NoText, text_for};
-use crate::fault::JobFault;
 use crate::job::{Job, TextKind};
 use crate::report::Report;
 use crate::search::{count_alone, search_alone};
 use crate::tables::TableKind;
 use cover_problem::{Lists, Problem};
+use debug_script::JobFault;
 use std::alloc::Global;
 use x_texts::VisitText;
 

@@ -6,7 +6,7 @@ use Rattle.x_debug.specs.Commands.{answer_line}
 use Rattle.x_debug.specs.LoadedTexts.{load_answer}
 use Rattle.debug_laws.proofs.AnswerLemmas.{line_alike, load_alike}
 use Rattle.debug_script.specs.Input.{without_newline, raw_lines}
-use Rattle.debug_script.specs.Refusals.{IsWantOr, IsWantOrAsked, MayRefuse, MayEnd}
+use Rattle.debug_script.specs.Refusals.{IsWantOrPool, IsWantOrAsked, MayRefuse, MayEnd}
 use Rattle.debug_script.proofs.RefusalLemmas.{command_may_end, asked_by, passed_on}
 use Rattle.debug_script.proofs.AlikeLemmas.{read_as, left_by, text_by, session_by, text_of_alike, session_of_alike}
 use Rattle.debug_script.proofs.answers.exchange.Goals as goal
@@ -109,13 +109,13 @@ returns-in-Some-Quit-clause-left g c = λ f.
 
 pub returns-in_err-session-in-Some-Pool-clause-why : goal.returns-in_err-session-in-Some-Pool-clause-why
 returns-in_err-session-in-Some-Pool-clause-why g c =
-    passed_on (IsWantOr MayEnd) c.in_err-session-in-Some-Pool.field-0.0 c.from_residual-in_err-session-in-Some-Pool.result
+    passed_on (IsWantOrPool MayEnd) c.in_err-session-in-Some-Pool.field-0.0 c.from_residual-in_err-session-in-Some-Pool.result
     c.from_residual-in_err-session-in-Some-Pool.ensures.1
     (command_may_end (without_newline c.args.raw.now) c.in-Some-Pool.workers
     (sym (read_as c.args.raw.now c.without_newline-line.result.now c.in-Some-Pool.field-0 (engine.Pool c.in-Some-Pool.workers) c.in-Some-Pool.field-0-is
     c.in-Some-Pool.ensures c.without_newline-line.ensures))
     c.in_err-session-in-Some-Pool.field-0.0
-    (subst (λ (n : ℕ). IsWantOr (MayRefuse n) c.in_err-session-in-Some-Pool.field-0.0) c.in-Some-Pool.workers-is c.in_err-session-in-Some-Pool.ensures.why))
+    (subst (λ (n : ℕ). IsWantOrPool (MayRefuse n) c.in_err-session-in-Some-Pool.field-0.0) c.in-Some-Pool.workers-is c.in_err-session-in-Some-Pool.ensures.why))
 
 pub returns-in_err-session-in-Some-Pool-clause-asked : goal.returns-in_err-session-in-Some-Pool-clause-asked
 returns-in_err-session-in-Some-Pool-clause-asked g c =

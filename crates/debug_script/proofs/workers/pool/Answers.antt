@@ -5,10 +5,10 @@ use Rattle.lab_book_laws.specs.Searched.{IsSearched}
 use Rattle.debug_laws.specs.AlikeSessions.{AreSoundAlike}
 use Rattle.x_debug.specs.Session.{SessionValue}
 use Rattle.lab_pool.specs.declared.fault.PoolFault.{PoolFault}
-use Rattle.debug_script.specs.declared.fault.RepliesFault.{RepliesFault}
-use Rattle.debug_script.specs.declared.fault.RepliesFault.TheVariants.{OutOfMemory}
+use Rattle.debug_script.specs.declared.fault.JobFault.{JobFault}
+use Rattle.debug_script.specs.declared.fault.JobFault.TheVariants.{OutOfMemory}
 use Rattle.debug_script.specs.PoolAnswer.{none_held, answer_pool}
-use Rattle.debug_script.specs.Refusals.{IsWantOr}
+use Rattle.debug_script.specs.Refusals.{IsWantOrPool}
 use Rattle.debug_script.proofs.PoolLemmas.{some_leased, no_leased, none_open, refused_alike, searched_alike, searched_text}
 use Rattle.debug_script.proofs.workers.pool.Goals as goal
 
@@ -45,7 +45,7 @@ returns-clause-session g c = λ f k.
     c.in_ok-book.ensures.tiling).sessions
 
 -- where memory ran out
-wanting : {A : Type 0} (May : PoolFault → Type 0) (r : Result A RepliesFault) → IsErrAnd r (λ f. f ≡ OutOfMemory) → IfErr r (IsWantOr May)
+wanting : {A : Type 0} (May : PoolFault → Type 0) (r : Result A JobFault) → IsErrAnd r (λ f. f ≡ OutOfMemory) → IfErr r (IsWantOrPool May)
 wanting May (Ok a) h = tt
 wanting May (Err f) h = rw h tt
 

@@ -24,6 +24,7 @@ use x_steps::{Event, Walk};
 use x_texts::write_visit;
 
 /// Takes a step, or up to so many, no further than to the next visit, of a worker that has room for one and isn't at its branch's end.
+#[inline(always)]
 fn walk_far<T: Table>(worker: &mut Worker<'_, T>, most: u32) -> Result<Walk, AllocError>
     requires { 0 < most }
     ensures walked { IfOk result (WalksFar worker.old worker.new most) }
@@ -59,6 +60,8 @@ fn note_visited<T: Table>(
 
 /// Walks up to so many steps on, no further than to the next visit, and to its branch's end at most, and writes the visit. How many
 /// steps these were.
+// With a breakpoint a run comes here at each step, as to `walk_far`.
+#[inline(always)]
 pub(crate) fn walk_on<'p, T: Table>(
     book: &mut Book<'p>,
     worker: &mut Worker<'p, T>,

@@ -23,8 +23,8 @@ pub fn sessions_are_sound()
     ensures seated_command { (s : SessionValue) (c : CommandValue) → LeavesSeated s (answer s c) }
     ensures seated_line { (s : SessionValue) (line : List ℕ) → LeavesSeated s (answer_line s line) }
     ensures seated_load { (s : SessionValue) (bytes : List ℕ) → LeavesSeated s (load_answer s bytes) }
-    ensures seated_stopped { (s new : SessionValue) (line : List ℕ) → IsSeatedSession s → IsLeft s line new
-        → IsSeatedSession new }
+    ensures seated_stopped { (s new : SessionValue) (line : List ℕ) → IsSeatedSession s
+        → IsLeft s line new → IsSeatedSession new }
     ensures itself { (s : SessionValue) → IsSoundSession s → AreSoundAlike s s }
     ensures seated_itself { (s : SessionValue) → IsSeatedSession s → AreSeatedAlike s s }
 {}
@@ -36,9 +36,12 @@ pub fn alike_sessions_answer_the_same()
     ensures command { (a b : SessionValue) (c : CommandValue) → AgreeOn a b (λ s. answer s c) }
     ensures line { (a b : SessionValue) (line : List ℕ) → AgreeOn a b (λ s. answer_line s line) }
     ensures load { (a b : SessionValue) (bytes : List ℕ) → AgreeOn a b (λ s. load_answer s bytes) }
-    ensures seated_command { (a b : SessionValue) (c : CommandValue) → SeatedAgreeOn a b (λ s. answer s c) }
-    ensures seated_line { (a b : SessionValue) (line : List ℕ) → SeatedAgreeOn a b (λ s. answer_line s line) }
-    ensures seated_load { (a b : SessionValue) (bytes : List ℕ) → SeatedAgreeOn a b (λ s. load_answer s bytes) }
+    ensures seated_command { (a b : SessionValue) (c : CommandValue)
+        → SeatedAgreeOn a b (λ s. answer s c) }
+    ensures seated_line { (a b : SessionValue) (line : List ℕ)
+        → SeatedAgreeOn a b (λ s. answer_line s line) }
+    ensures seated_load { (a b : SessionValue) (bytes : List ℕ)
+        → SeatedAgreeOn a b (λ s. load_answer s bytes) }
 {}
 
 /// Whatever tiling a pool makes of the book of a sound session with no branch open, or of a seated one with no tile leased, the session on

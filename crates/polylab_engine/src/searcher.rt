@@ -91,19 +91,15 @@ fn by_bits<'p>(alloc: Global, links: &mut Machine<'p, LinkTable>) -> Option<AnyM
 }
 
 /// By links at the same state, if a short search from there on prefers them and there is memory for them.
-fn by_links<'p>(alloc: Global, bits: &Machine<'p, BitTable>) -> Option<AnyMachine<'p>>
-    ensures { IfSome result (λ m. machine_value m ≡ bits.now) }
+fn by_links<'p>(alloc: Global, bits: &mut Machine<'p, BitTable>) -> Option<AnyMachine<'p>>
+    ensures same { bits.new ≡ bits.old }
+    ensures better { IfSome result (λ m. machine_value m ≡ bits.old) }
 {
-    // Links tell what either table would pay. Bits could too, but the short search is to cost little where links are better.
+    if prefers_bits(alloc, bits) {
+        return None;
+    }
     match machine_at::<LinkTable>(alloc, bits.problem(), bits.state()) {
-        Ok(links) => {
-            let mut links = links;
-            if prefers_bits(alloc, &mut links) {
-                None
-            } else {
-                Some(AnyMachine::Links(links))
-            }
-        }
+        Ok(links) => Some(AnyMachine::Links(links)),
         Err(_) => None,
     }
 }

@@ -8,11 +8,11 @@ use cover_problem::Table;
 use std::alloc::{AllocError, Global};
 use x_steps::{Cursor, Label, Machine};
 
-/// The most steps of a probe: 128 nodes have some 8 steps each.
-const MOST_STEPS: u32 = 1_024;
+/// The most steps of a probe: 64 nodes have some 8 steps each.
+const MOST_STEPS: u32 = 512;
 
-/// Where links have paid so much the probe ends: some milliseconds.
-const MOST_COST: u128 = 8_000_000;
+/// Where links have paid so much the probe ends: half a millisecond.
+const MOST_COST: u128 = 2_000_000;
 
 /// How many items the machine's next step uncovers.
 fn uncovered_next<T: Table>(machine: &Machine<'_, T>) -> usize {
@@ -89,7 +89,7 @@ fn step_on<T: Table>(words: &mut Words, machine: &mut Machine<'_, T>) -> Result<
     Ok(true)
 }
 
-/// Takes steps and counts what they cost, 1,024 of them, or fewer where links have paid enough before or the search ends.
+/// Takes steps and counts what they cost, 512 of them, or fewer where links have paid enough before or the search ends.
 fn walk_on<T: Table>(words: &mut Words, machine: &mut Machine<'_, T>) -> Result<(), AllocError>
     requires { HasWords machine.old.problem words.old }
     ensures { machine.new.problem ≡ machine.old.problem }
@@ -105,7 +105,7 @@ fn walk_on<T: Table>(words: &mut Words, machine: &mut Machine<'_, T>) -> Result<
     Ok(())
 }
 
-/// What the next steps of a search cost, 1,024 of them, or fewer where links have paid enough before or the search ends. The machine
+/// What the next steps of a search cost, 512 of them, or fewer where links have paid enough before or the search ends. The machine
 /// stands where it stood.
 pub fn costs_ahead<T: Table>(
     alloc: Global,

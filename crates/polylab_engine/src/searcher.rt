@@ -91,15 +91,19 @@ fn by_bits<'p>(alloc: Global, links: &mut Machine<'p, LinkTable>) -> Option<AnyM
 }
 
 /// By links at the same state, if a short search from there on prefers them and there is memory for them.
-fn by_links<'p>(alloc: Global, bits: &mut Machine<'p, BitTable>) -> Option<AnyMachine<'p>>
-    ensures same { bits.new ≡ bits.old }
-    ensures better { IfSome result (λ m. machine_value m ≡ bits.old) }
+fn by_links<'p>(alloc: Global, bits: &Machine<'p, BitTable>) -> Option<AnyMachine<'p>>
+    ensures { IfSome result (λ m. machine_value m ≡ bits.now) }
 {
-    if prefers_bits(alloc, bits) {
-        return None;
-    }
+    // Links tell what either table would pay, and at large problems sooner than bits, which have to look for each option of a list.
     match machine_at::<LinkTable>(alloc, bits.problem(), bits.state()) {
-        Ok(links) => Some(AnyMachine::Links(links)),
+        Ok(links) => {
+            let mut links = links;
+            if prefers_bits(alloc, &mut links) {
+                None
+            } else {
+                Some(AnyMachine::Links(links))
+            }
+        }
         Err(_) => None,
     }
 }

@@ -85,10 +85,11 @@ def denied(head):
 
 def is_denied(goal, text, words):
     """Whether a denial names what a goal's claim names: the words that claim that there is something, or each proposition and type where it has none of
-    these. That it is of the goal's own arguments is for a reader."""
+    these. A goal has an abbreviation unfolded: where nothing is left of its words, the denial has to name one that claims that there is something. That it
+    is of the goal's own arguments is for a reader."""
     named = {found[1] for found in map(PROPOSITION.fullmatch, cited(goal)) if found}
-    wanted = named & words or named
-    return bool(wanted) and wanted <= {it.rpartition(".")[2] for it in tokens(text)}
+    said = {it.rpartition(".")[2] for it in tokens(text)}
+    return (named & words or named) <= said if named else bool(said & words)
 
 
 class Claims:

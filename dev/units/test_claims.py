@@ -6,7 +6,7 @@ import tempfile
 import unittest
 
 from check_clauses import clauses, faults_in, listed, loose_clauses
-from claims import Claims, is_claim, witnesses
+from claims import Claims, is_claim, is_denied, witnesses
 from spec_words import Project
 
 SPECS = """-- Points.
@@ -72,6 +72,13 @@ class Clauses(unittest.TestCase):
     def test_words_lead_to_claims(self):
         self.assertEqual(self.loose(function("IfOk result (λ ps. IsSet ps)")), ["points some found IsSet HasLeft: p (y)"])
         self.assertEqual(self.claims.words(), {"HasLeft", "HasCorner", "HasFirst"})
+
+    def test_a_denial_names_what_a_goal_claims(self):
+        words = self.claims.words()
+        self.assertTrue(is_denied("HasLeft ps", "HasLeft ps → ⊥", words))
+        self.assertFalse(is_denied("HasLeft ps", "HasCorner ps → ⊥", words))
+        self.assertTrue(is_denied("(k : ℕ) × a < k", "HasLeft ps → ⊥", words))
+        self.assertFalse(is_denied("(k : ℕ) × a < k", "IsIn p ps → ⊥", words))
 
     def test_laws_and_private_functions_are_passed_over(self):
         self.assertEqual(self.loose(function("HasLeft result.items", "{}")), [])

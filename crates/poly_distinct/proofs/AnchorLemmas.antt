@@ -10,7 +10,8 @@ use Rattle.poly_cells.proofs.SetLemmas.{cases_order, turned_back, not_both, not_
 use Rattle.poly_cells.proofs.MemberLemmas.{all_pass, passes, in_from_flat_map}
 use Rattle.poly_cells.proofs.CellTestLemmas.{in_from_has, has_from_in}
 use Rattle.poly_cells.proofs.CoordinateLemmas.{coordinates_total, coordinates_exact}
-use Rattle.poly_texts.specs.Puzzle.{PuzzleValue, IsPuzzle, names_of, has_name, is_spare}
+use Rattle.poly_texts.specs.Puzzle.{PuzzleValue, IsPuzzle, pieces_of, equal_names, spare_names, names_of, has_name, is_spare}
+use Rattle.poly_texts.proofs.EqualLemmas.{spare_equal}
 use Rattle.poly_place.specs.declared.alike.Group.{Group}
 use Rattle.poly_place.specs.Placements.{cells_cmp}
 use Rattle.poly_place.specs.Packings.{ChoiceValue, is_any, IsPacking, Thing, a_piece, a_cell, a_node}
@@ -87,11 +88,11 @@ image_twice region a b c cells e =
 
 module _ (p : PuzzleValue) (z : IsPuzzle p) where
   -- a piece without an equal one isn't spare
-  not_spare : (name : ℕ) → ((group : List ℕ) → IsIn group p.equal → IsIn name group → ⊥) → is_spare p name ≡ false
+  not_spare : (name : ℕ) → ((group : List ℕ) → IsIn group (equal_names p) → IsIn name group → ⊥) → is_spare p name ≡ false
   not_spare name alone =
       false_from_ne_true (is_spare p name) (λ h.
-      let there = passes (has_name (flat_map (λ (group : List ℕ). group) p.equal)) p.spare z.spare_equal name (in_from_name p.spare name h) in
-      let g = in_from_flat_map (λ (group : List ℕ). group) name p.equal (in_from_name (flat_map (λ (group : List ℕ). group) p.equal) name there) in
+      let there = passes (has_name (flat_map (λ (group : List ℕ). group) (equal_names p))) (spare_names p) (spare_equal p z) name (in_from_name (spare_names p) name h) in
+      let g = in_from_flat_map (λ (group : List ℕ). group) name (equal_names p) (in_from_name (flat_map (λ (group : List ℕ). group) (equal_names p)) name there) in
       alone g.0 g.1 g.2)
 
   -- a packing has a choice at the anchor
@@ -110,8 +111,8 @@ module _ (p : PuzzleValue) (z : IsPuzzle p) where
   anchor_once (a_node name h) a cs k c d i j m n = absurd a
 
   module _ (group : Group) (n : ℕ) (q r : List ℕ) (e : IsPath p q) (f : IsPath p r) where
-    named : (c : ChoiceValue) → IsIn c (chosen_by p q) → IsIn c.name (names_of p.pieces)
-    named c i = let h = (cover_packs p z q e).placed c (among_from_in (chosen_by p q) c i) in in_map (λ (m : ℕ × List Coordinates). m.0) (c.name, h.piece) p.pieces h.named
+    named : (c : ChoiceValue) → IsIn c (chosen_by p q) → IsIn c.name (names_of (pieces_of p))
+    named c i = let h = (cover_packs p z q e).placed c (among_from_in (chosen_by p q) c i) in in_map (λ (m : ℕ × List Coordinates). m.0) (c.name, h.piece) (pieces_of p) h.named
 
     -- what is brought to the anchor comes from it
     comes_from_anchor : (t : Thing) → IsAnchor p t → (k : IsKept group p.region p.maybe_cells n) (s : ℕ → ℕ) → CarriesPieces p s n → KeepsThing p s n t

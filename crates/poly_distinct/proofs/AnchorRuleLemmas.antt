@@ -5,7 +5,7 @@ use Rattle.std.proofs.lemmas.Bool.{and_parts, not-true}
 use Rattle.poly_cells.specs.Sets.{IsIn}
 use Rattle.poly_cells.proofs.SetLemmas.{in_append_cases, in_from_map}
 use Rattle.poly_cells.proofs.MemberLemmas.{in_from_filter, passes, passes_some}
-use Rattle.poly_texts.specs.Puzzle.{PuzzleValue, names_of, has_name, is_needed}
+use Rattle.poly_texts.specs.Puzzle.{PuzzleValue, pieces_of, equal_names, names_of, has_name, is_needed}
 use Rattle.cover_problem.specs.Problem.{ProblemValue}
 use Rattle.poly_place.specs.declared.alike.Group.{Group}
 use Rattle.poly_place.specs.Packings.{Thing, must_fill, packing_problem}
@@ -53,13 +53,13 @@ absent name group h i =
     cc
 
 anchor_is : (p : PuzzleValue) (a : Anchor) → IsIn a (anchors_of p) → IsAnchor p (thing_of a)
-anchor_is p a i = elim (in_append_cases a (map Piece (filter (is_single p) (names_of p.pieces))) (map Cell (filled_cells p)) i) [
+anchor_is p a i = elim (in_append_cases a (map Piece (filter (is_single p) (names_of (pieces_of p)))) (map Cell (filled_cells p)) i) [
   | inl l ↦
-      let name = in_from_map Piece a (filter (is_single p) (names_of p.pieces)) l in
-      let there = in_from_filter (is_single p) name.0 (names_of p.pieces) name.1 in
+      let name = in_from_map Piece a (filter (is_single p) (names_of (pieces_of p))) l in
+      let there = in_from_filter (is_single p) name.0 (names_of (pieces_of p)) name.1 in
       let parts = and_parts (is_needed p name.0) (is_alone p name.0) there.1 in
       subst (λ (b : Anchor). IsAnchor p (thing_of b)) (sym name.2)
-      (there.0, parts.0, λ group j k. absent name.0 group (passes (λ g. not (has_name g name.0)) p.equal parts.1 group j) k)
+      (there.0, parts.0, λ group j k. absent name.0 group (passes (λ g. not (has_name g name.0)) (equal_names p) parts.1 group j) k)
   | inr r ↦
       let v = in_from_map Cell a (filled_cells p) r in
       let there = in_from_filter (must_fill p) v.0 p.region v.1 in

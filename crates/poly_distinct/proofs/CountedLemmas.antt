@@ -13,7 +13,7 @@ use Rattle.poly_cells.proofs.SetLemmas.{cases_order, turned_back, in_map, in_fro
 use Rattle.poly_cells.proofs.MemberLemmas.{in_filter, in_from_filter, passes, same_function}
 use Rattle.poly_cells.proofs.CoordinateLemmas.{coordinates_total, coordinates_exact}
 use Rattle.shared_words.specs.Lists.{has}
-use Rattle.poly_texts.specs.Puzzle.{PuzzleValue, IsPuzzle, names_of}
+use Rattle.poly_texts.specs.Puzzle.{PuzzleValue, IsPuzzle, pieces_of, names_of}
 use Rattle.poly_place.specs.declared.alike.Group.{Group}
 use Rattle.poly_place.specs.Placements.{cells_cmp}
 use Rattle.poly_place.specs.Packings.{ChoiceValue, choice_with, packing_problem, SetStandsFor, Thing, a_node}
@@ -52,8 +52,8 @@ equal_on p z a b c x y =
 -- ---- a packing is told by what it is brought to
 
 module _ (p : PuzzleValue) (z : IsPuzzle p) where
-  named_in : (q : List ℕ) → IsPath p q → (c : ChoiceValue) → IsIn c (chosen_by p q) → IsIn c.name (names_of p.pieces)
-  named_in q e c i = let h = (cover_packs p z q e).placed c (among_from_in (chosen_by p q) c i) in in_map (λ (m : ℕ × List Coordinates). m.0) (c.name, h.piece) p.pieces h.named
+  named_in : (q : List ℕ) → IsPath p q → (c : ChoiceValue) → IsIn c (chosen_by p q) → IsIn c.name (names_of (pieces_of p))
+  named_in q e c i = let h = (cover_packs p z q e).placed c (among_from_in (chosen_by p q) c i) in in_map (λ (m : ℕ × List Coordinates). m.0) (c.name, h.piece) (pieces_of p) h.named
 
   module _ (group : Group) (n : ℕ) (k : IsKept group p.region p.maybe_cells n) where
     -- cells with one image are the same

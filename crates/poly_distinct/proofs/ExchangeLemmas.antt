@@ -9,10 +9,10 @@ use Rattle.std.proofs.lemmas.List.Folds.{list_all-map}
 use Rattle.poly_cells.specs.Coordinates.{Coordinates}
 use Rattle.poly_cells.specs.Shapes.{turned}
 use Rattle.poly_cells.specs.Symmetries.{is_rotation}
-use Rattle.poly_texts.specs.Puzzle.{PuzzleValue, names_of, has_name}
+use Rattle.poly_texts.specs.Puzzle.{PuzzleValue, pieces_of, mirrored_names, names_of, has_name}
 use Rattle.poly_place.specs.Placements.{cells_cmp}
 use Rattle.poly_distinct.specs.Distinct.{is_mirrored, mirrors_pieces, keeps_flags, tells_names, are_mirrors}
-use Rattle.poly_distinct.specs.Exchange.{KindValue, RoleValue, mirror_name, has_mirrors, piece_kind, kinds_of, pairs_of, role_of, second_of, has_form, forms_by, is_like, rank_among, takes_symmetry}
+use Rattle.poly_distinct.specs.Exchange.{FormedValue, RoleValue, mirror_name, has_mirrors, formed_piece, formed_pieces, pairs_of, role_of, second_of, has_form, forms_by, is_like, rank_among, takes_symmetry}
 
 -- ---- the first of a list that passes a test
 
@@ -52,88 +52,88 @@ reflects true b = refl
 reflects false b = refl
 
 -- a piece is among the forms of the other one's mirror image where it is its mirror image
-pub image_is : (p : PuzzleValue) (name : ℕ) (cells piece : List Coordinates) → has_form (forms_by (takes_symmetry false (has_name p.mirrored name)) cells) piece ≡ is_mirrored p name cells piece
+pub image_is : (p : PuzzleValue) (name : ℕ) (cells piece : List Coordinates) → has_form (forms_by (takes_symmetry false (has_name (mirrored_names p) name)) cells) piece ≡ is_mirrored p name cells piece
 image_is p name cells piece =
-    any_filtered (λ form. is_eq (cells_cmp form piece)) (λ n. turned n cells) (takes_symmetry false (has_name p.mirrored name)) (range_with_len 0 48)
-    ∙ same_any (λ n. takes_symmetry false (has_name p.mirrored name) n && is_eq (cells_cmp (turned n cells) piece))
-    (λ n. (not (is_rotation n) || has_name p.mirrored name) && is_eq (cells_cmp (turned n cells) piece))
-    (λ n. ap (λ b. b && is_eq (cells_cmp (turned n cells) piece)) (reflects (is_rotation n) (has_name p.mirrored name))) (range_with_len 0 48)
+    any_filtered (λ form. is_eq (cells_cmp form piece)) (λ n. turned n cells) (takes_symmetry false (has_name (mirrored_names p) name)) (range_with_len 0 48)
+    ∙ same_any (λ n. takes_symmetry false (has_name (mirrored_names p) name) n && is_eq (cells_cmp (turned n cells) piece))
+    (λ n. (not (is_rotation n) || has_name (mirrored_names p) name) && is_eq (cells_cmp (turned n cells) piece))
+    (λ n. ap (λ b. b && is_eq (cells_cmp (turned n cells) piece)) (reflects (is_rotation n) (has_name (mirrored_names p) name))) (range_with_len 0 48)
 
--- whether some kind stands for the piece that takes the place of one
-abbrev pub has_mirror : List KindValue → (ℕ → ℕ) → KindValue → Bool
-has_mirror ks s k = list_any (λ l. (l.name == s k.name) && has_form l.images k.piece) ks
+-- whether one of these stands for the piece that takes the place of one
+abbrev pub has_mirror : List FormedValue → (ℕ → ℕ) → FormedValue → Bool
+has_mirror ks s k = list_any (λ l. (l.name == s k.name) && has_form l.images k.cells) ks
 
-mirror_is : (p : PuzzleValue) (s : ℕ → ℕ) (named : ℕ × List Coordinates) → has_mirror (kinds_of p) s (piece_kind p named) ≡ list_any (λ other. (other.0 == s (named.0)) && is_mirrored p (other.0) (other.1) (named.1)) p.pieces
+mirror_is : (p : PuzzleValue) (s : ℕ → ℕ) (named : ℕ × List Coordinates) → has_mirror (formed_pieces p) s (formed_piece p named) ≡ list_any (λ other. (other.0 == s (named.0)) && is_mirrored p (other.0) (other.1) (named.1)) (pieces_of p)
 mirror_is p s named =
-    any_map (λ l. (l.name == s (named.0)) && has_form l.images (named.1)) (piece_kind p) p.pieces
-    ∙ same_any (λ (other : ℕ × List Coordinates). (other.0 == s (named.0)) && has_form (piece_kind p other).images (named.1))
+    any_map (λ l. (l.name == s (named.0)) && has_form l.images (named.1)) (formed_piece p) (pieces_of p)
+    ∙ same_any (λ (other : ℕ × List Coordinates). (other.0 == s (named.0)) && has_form (formed_piece p other).images (named.1))
     (λ (other : ℕ × List Coordinates). (other.0 == s (named.0)) && is_mirrored p (other.0) (other.1) (named.1))
-    (λ (other : ℕ × List Coordinates). ap (λ b. (other.0 == s (named.0)) && b) (image_is p (other.0) (other.1) (named.1))) p.pieces
+    (λ (other : ℕ × List Coordinates). ap (λ b. (other.0 == s (named.0)) && b) (image_is p (other.0) (other.1) (named.1))) (pieces_of p)
 
-pub mirrors_are : (p : PuzzleValue) (s : ℕ → ℕ) → list_all (has_mirror (kinds_of p) s) (kinds_of p) ≡ mirrors_pieces p s
+pub mirrors_are : (p : PuzzleValue) (s : ℕ → ℕ) → list_all (has_mirror (formed_pieces p) s) (formed_pieces p) ≡ mirrors_pieces p s
 mirrors_are p s =
-    list_all-map (has_mirror (kinds_of p) s) (piece_kind p) p.pieces
-    ∙ same_all (λ (named : ℕ × List Coordinates). has_mirror (kinds_of p) s (piece_kind p named))
-    (λ (named : ℕ × List Coordinates). list_any (λ other. (other.0 == s (named.0)) && is_mirrored p (other.0) (other.1) (named.1)) p.pieces)
-    (mirror_is p s) p.pieces
+    list_all-map (has_mirror (formed_pieces p) s) (formed_piece p) (pieces_of p)
+    ∙ same_all (λ (named : ℕ × List Coordinates). has_mirror (formed_pieces p) s (formed_piece p named))
+    (λ (named : ℕ × List Coordinates). list_any (λ other. (other.0 == s (named.0)) && is_mirrored p (other.0) (other.1) (named.1)) (pieces_of p))
+    (mirror_is p s) (pieces_of p)
 
 -- ---- names
 
-pub all_names : (p : PuzzleValue) (f : ℕ → Bool) → list_all (λ (k : KindValue). f k.name) (kinds_of p) ≡ list_all f (names_of p.pieces)
+pub all_names : (p : PuzzleValue) (f : ℕ → Bool) → list_all (λ (k : FormedValue). f k.name) (formed_pieces p) ≡ list_all f (names_of (pieces_of p))
 all_names p f =
-    list_all-map (λ (k : KindValue). f k.name) (piece_kind p) p.pieces ∙ sym (list_all-map f (λ (n : ℕ × List Coordinates). n.0) p.pieces)
+    list_all-map (λ (k : FormedValue). f k.name) (formed_piece p) (pieces_of p) ∙ sym (list_all-map f (λ (n : ℕ × List Coordinates). n.0) (pieces_of p))
 
-pub any_name : (p : PuzzleValue) (f : ℕ → Bool) → list_any (λ (k : KindValue). f k.name) (kinds_of p) ≡ list_any f (names_of p.pieces)
+pub any_name : (p : PuzzleValue) (f : ℕ → Bool) → list_any (λ (k : FormedValue). f k.name) (formed_pieces p) ≡ list_any f (names_of (pieces_of p))
 any_name p f =
-    any_map (λ (k : KindValue). f k.name) (piece_kind p) p.pieces ∙ sym (any_map f (λ (n : ℕ × List Coordinates). n.0) p.pieces)
+    any_map (λ (k : FormedValue). f k.name) (formed_piece p) (pieces_of p) ∙ sym (any_map f (λ (n : ℕ × List Coordinates). n.0) (pieces_of p))
 
 -- ---- all four tests
 
-pub tests_are : (p : PuzzleValue) (s : ℕ → ℕ) (ks : List KindValue) → ks ≡ kinds_of p
+pub tests_are : (p : PuzzleValue) (s : ℕ → ℕ) (ks : List FormedValue) → ks ≡ formed_pieces p
     → (list_all (has_mirror ks s) ks
-    && (list_all (λ (k : KindValue). keeps_flags p s k.name) ks
-    && (list_all (λ (k : KindValue). list_all (λ (l : KindValue). tells_names p s k.name l.name) ks) ks
-    && list_all (λ (k : KindValue). list_any (λ (l : KindValue). s l.name == k.name) ks) ks))) ≡ are_mirrors p s
+    && (list_all (λ (k : FormedValue). keeps_flags p s k.name) ks
+    && (list_all (λ (k : FormedValue). list_all (λ (l : FormedValue). tells_names p s k.name l.name) ks) ks
+    && list_all (λ (k : FormedValue). list_any (λ (l : FormedValue). s l.name == k.name) ks) ks))) ≡ are_mirrors p s
 unfolding are_mirrors
 tests_are p s ks e =
-    ap (λ (js : List KindValue). list_all (has_mirror js s) js
-    && (list_all (λ (k : KindValue). keeps_flags p s k.name) js
-    && (list_all (λ (k : KindValue). list_all (λ (l : KindValue). tells_names p s k.name l.name) js) js
-    && list_all (λ (k : KindValue). list_any (λ (l : KindValue). s l.name == k.name) js) js))) e
+    ap (λ (js : List FormedValue). list_all (has_mirror js s) js
+    && (list_all (λ (k : FormedValue). keeps_flags p s k.name) js
+    && (list_all (λ (k : FormedValue). list_all (λ (l : FormedValue). tells_names p s k.name l.name) js) js
+    && list_all (λ (k : FormedValue). list_any (λ (l : FormedValue). s l.name == k.name) js) js))) e
     ∙ ap₂ (λ a b. a && b) (mirrors_are p s)
     (ap₂ (λ a b. a && b) (all_names p (keeps_flags p s))
     (ap₂ (λ a b. a && b)
-    (same_all (λ (k : KindValue). list_all (λ (l : KindValue). tells_names p s k.name l.name) (kinds_of p)) (λ (k : KindValue). list_all (tells_names p s k.name) (names_of p.pieces))
-    (λ (k : KindValue). all_names p (tells_names p s k.name)) (kinds_of p)
-    ∙ all_names p (λ a. list_all (tells_names p s a) (names_of p.pieces)))
-    (same_all (λ (k : KindValue). list_any (λ (l : KindValue). s l.name == k.name) (kinds_of p)) (λ (k : KindValue). list_any (λ a. s a == k.name) (names_of p.pieces))
-    (λ (k : KindValue). any_name p (λ a. s a == k.name)) (kinds_of p)
-    ∙ all_names p (λ b. list_any (λ a. s a == b) (names_of p.pieces)))))
+    (same_all (λ (k : FormedValue). list_all (λ (l : FormedValue). tells_names p s k.name l.name) (formed_pieces p)) (λ (k : FormedValue). list_all (tells_names p s k.name) (names_of (pieces_of p)))
+    (λ (k : FormedValue). all_names p (tells_names p s k.name)) (formed_pieces p)
+    ∙ all_names p (λ a. list_all (tells_names p s a) (names_of (pieces_of p))))
+    (same_all (λ (k : FormedValue). list_any (λ (l : FormedValue). s l.name == k.name) (formed_pieces p)) (λ (k : FormedValue). list_any (λ a. s a == k.name) (names_of (pieces_of p)))
+    (λ (k : FormedValue). any_name p (λ a. s a == k.name)) (formed_pieces p)
+    ∙ all_names p (λ b. list_any (λ a. s a == b) (names_of (pieces_of p))))))
 
 pub four : (a b c d e f g h : Bool) → a ≡ e → b ≡ f → c ≡ g → d ≡ h → (a && (b && (c && d))) ≡ (e && (f && (g && h)))
 four a b c d e f g h p q r s = ap₂ (λ x y. x && y) p (ap₂ (λ x y. x && y) q (ap₂ (λ x y. x && y) r s))
 
 -- ---- what is kept
 
-pub name_is : (p : PuzzleValue) (pairs : List (ℕ × ℕ)) (name : ℕ) → pairs ≡ pairs_of (kinds_of p) → second_of pairs name ≡ mirror_name p name
+pub name_is : (p : PuzzleValue) (pairs : List (ℕ × ℕ)) (name : ℕ) → pairs ≡ pairs_of (formed_pieces p) → second_of pairs name ≡ mirror_name p name
 unfolding mirror_name
 name_is p pairs name e = ap (λ (qs : List (ℕ × ℕ)). second_of qs name) e
 
-pub whole_is : (p : PuzzleValue) (pairs : List (ℕ × ℕ)) → pairs ≡ pairs_of (kinds_of p) → are_mirrors p (second_of pairs) ≡ has_mirrors p
+pub whole_is : (p : PuzzleValue) (pairs : List (ℕ × ℕ)) → pairs ≡ pairs_of (formed_pieces p) → are_mirrors p (second_of pairs) ≡ has_mirrors p
 unfolding mirror_name has_mirrors
 whole_is p pairs e = ap (λ (qs : List (ℕ × ℕ)). are_mirrors p (second_of qs)) e
 
-abbrev pub kind_with : ℕ → List Coordinates → List (List Coordinates) → List (List Coordinates) → RoleValue → KindValue
-kind_with name piece forms images role = record { name = name; piece = piece; forms = forms; images = images; role = role }
+abbrev pub formed_with : ℕ → List Coordinates → List (List Coordinates) → List (List Coordinates) → RoleValue → FormedValue
+formed_with name piece forms images role = record { name = name; cells = piece; forms = forms; images = images; role = role }
 
-pub kind_is : (p : PuzzleValue) (name : ℕ) (piece copy : List Coordinates) (forms images : List (List Coordinates)) (role : RoleValue) (both : Bool) → copy ≡ piece → both ≡ has_name p.mirrored name
+pub formed_is : (p : PuzzleValue) (name : ℕ) (piece copy : List Coordinates) (forms images : List (List Coordinates)) (role : RoleValue) (both : Bool) → copy ≡ piece → both ≡ has_name (mirrored_names p) name
     → forms ≡ forms_by (takes_symmetry true both) piece → images ≡ forms_by (takes_symmetry false both) piece → role ≡ role_of p name
-    → kind_with name copy forms images role ≡ piece_kind p (name, piece)
-kind_is p name piece copy forms images role both c b f i r =
-    ap (λ (vs : List Coordinates). kind_with name vs forms images role) c
-    ∙ ap (λ (fs : List (List Coordinates)). kind_with name piece fs images role) (f ∙ ap (λ (x : Bool). forms_by (takes_symmetry true x) piece) b)
-    ∙ ap (λ (fs : List (List Coordinates)). kind_with name piece (forms_by (takes_symmetry true (has_name p.mirrored name)) piece) fs role) (i ∙ ap (λ (x : Bool). forms_by (takes_symmetry false x) piece) b)
-    ∙ ap (kind_with name piece (forms_by (takes_symmetry true (has_name p.mirrored name)) piece) (forms_by (takes_symmetry false (has_name p.mirrored name)) piece)) r
+    → formed_with name copy forms images role ≡ formed_piece p (name, piece)
+formed_is p name piece copy forms images role both c b f i r =
+    ap (λ (vs : List Coordinates). formed_with name vs forms images role) c
+    ∙ ap (λ (fs : List (List Coordinates)). formed_with name piece fs images role) (f ∙ ap (λ (x : Bool). forms_by (takes_symmetry true x) piece) b)
+    ∙ ap (λ (fs : List (List Coordinates)). formed_with name piece (forms_by (takes_symmetry true (has_name (mirrored_names p) name)) piece) fs role) (i ∙ ap (λ (x : Bool). forms_by (takes_symmetry false x) piece) b)
+    ∙ ap (formed_with name piece (forms_by (takes_symmetry true (has_name (mirrored_names p) name)) piece) (forms_by (takes_symmetry false (has_name (mirrored_names p) name)) piece)) r
 
 -- one more passes a test, or fails
 pub all_next : {X : Type 0} (test : X → Bool) (xs : List X) (i : ℕ) (x : X) (b : Bool) → i < length xs → x ≡ get_or xs i x → test x ≡ b → list_all test (drop i xs) ≡ (b && list_all test (drop (i + 1) xs))
@@ -144,7 +144,7 @@ all_end test xs i le = ap (list_all test) (sym (drop_all i xs le))
 
 -- ---- how many like pieces come before a piece
 
-counted : (b : Bool) (x : KindValue) (ys : List KindValue) (one : ℕ) → one ≡ cond b 1 0 → length (cond b (x ∷ ys) ys) ≡ one + length ys
+counted : (b : Bool) (x : FormedValue) (ys : List FormedValue) (one : ℕ) → one ≡ cond b 1 0 → length (cond b (x ∷ ys) ys) ≡ one + length ys
 counted true x ys one e = omega (arith, e)
 counted false x ys one e = omega (arith, e)
 
@@ -158,14 +158,14 @@ took test x xs h =
     ∙ ap (λ (n : ℕ). take n (x ∷ xs)) (let e : 1 + prefix_len test xs ≡ suc (prefix_len test xs) = omega arith in e)
 
 -- one piece more that isn't the one itself
-pub rank_next : (ks : List KindValue) (k x : KindValue) (i n one : ℕ) (b : Bool) → i < length ks → x ≡ get_or ks i x → (x.name == k.name) ≡ false → is_like k x ≡ b → one ≡ cond b 1 0
+pub rank_next : (ks : List FormedValue) (k x : FormedValue) (i n one : ℕ) (b : Bool) → i < length ks → x ≡ get_or ks i x → (x.name == k.name) ≡ false → is_like k x ≡ b → one ≡ cond b 1 0
     → (n + rank_among (drop i ks) k ≡ rank_among ks k) × (n ≤ i) → (n + one + rank_among (drop (i + 1) ks) k ≡ rank_among ks k) × (n + one ≤ i + 1)
 rank_next ks k x i n one b lt is other like e so =
-    let other_than : KindValue → Bool = λ l. not (l.name == k.name) in
+    let other_than : FormedValue → Bool = λ l. not (l.name == k.name) in
     let rest = take_while other_than (drop (i + 1) ks) in
     let next : rank_among (drop i ks) k ≡ one + rank_among (drop (i + 1) ks) k =
-    ap (λ (js : List KindValue). rank_among js k) (at_drop_more (λ (ys : List KindValue). ys) ks i x lt ∙ ap (λ (y : KindValue). y ∷ drop (i + 1) ks) (sym is))
-    ∙ ap (λ (ys : List KindValue). length (filter (is_like k) ys)) (took other_than x (drop (i + 1) ks) (ap not other))
+    ap (λ (js : List FormedValue). rank_among js k) (at_drop_more (λ (ys : List FormedValue). ys) ks i x lt ∙ ap (λ (y : FormedValue). y ∷ drop (i + 1) ks) (sym is))
+    ∙ ap (λ (ys : List FormedValue). length (filter (is_like k) ys)) (took other_than x (drop (i + 1) ks) (ap not other))
     ∙ ap (λ (c : Bool). length (cond c (x ∷ filter (is_like k) rest) (filter (is_like k) rest))) like
     ∙ counted b x (filter (is_like k) rest) one e in
     let sum = so.0 in

@@ -8,11 +8,11 @@ use Rattle.poly_cells.specs.Shapes.{IsShape}
 use Rattle.poly_cells.specs.CellTests.{has_cell}
 use Rattle.poly_cells.proofs.SetLemmas.{in_map, in_from_map, in_from_order, in_to_order, in_order_rises}
 use Rattle.poly_cells.proofs.CoordinateLemmas.{coordinates_total, coordinates_exact}
-use Rattle.poly_texts.specs.Puzzle.{PuzzleValue, IsPuzzle, names_of, is_needed, is_spare}
+use Rattle.poly_texts.specs.Puzzle.{PuzzleValue, IsPuzzle, pieces_of, names_of, is_needed, is_spare}
 use Rattle.poly_place.specs.declared.alike.Group.{Group}
-use Rattle.poly_place.specs.Packings.{ChoiceValue, is_any, must_fill, IsPlaced, IsPacking}
+use Rattle.poly_place.specs.Packings.{ChoiceValue, is_any, must_fill, IsPlaced}
 use Rattle.poly_place.specs.Chosen.{is_among}
-use Rattle.poly_place.specs.Swaps.{told_apart}
+use Rattle.poly_place.specs.Swaps.{IsApart}
 use Rattle.poly_place.specs.ClassCount.{image_in}
 use Rattle.poly_place.specs.Forms.{IsKept}
 use Rattle.poly_distinct.specs.Distinct.{image_of, CarriesPieces, image_choice, image_choices}
@@ -67,10 +67,10 @@ module _ (p : PuzzleValue) (z : IsPuzzle p) (group : Group) (n : ℕ) (k : IsKep
   filled_inside : (v : Coordinates) → must_fill p v ≡ true → IsIn v p.region
   filled_inside v h = in_from_has p.region v (and_parts (has_cell p.region v) (not (has_cell p.maybe_cells v)) h).0
 
-  named : (c : ChoiceValue) → IsPlaced (told_apart p) c → IsIn c.name (names_of p.pieces)
-  named c h = in_map (λ (m : ℕ × List Coordinates). m.0) (c.name, h.piece) p.pieces h.named
+  named : (c : ChoiceValue) → IsPlaced p c → IsIn c.name (names_of (pieces_of p))
+  named c h = in_map (λ (m : ℕ × List Coordinates). m.0) (c.name, h.piece) (pieces_of p) h.named
 
-  placed_there : (c : ChoiceValue) → IsPlaced (told_apart p) c → IsPlaced (told_apart p) (image_choice p s n c)
+  placed_there : (c : ChoiceValue) → IsPlaced p c → IsPlaced p (image_choice p s n c)
   placed_there c h =
       let there = keeps.placed c.name h.piece c.cells h.named h.placed in
       record {
@@ -84,16 +84,16 @@ module _ (p : PuzzleValue) (z : IsPuzzle p) (group : Group) (n : ℕ) (k : IsKep
         ];
       }
 
-  module _ (cs : List ChoiceValue) (a : IsPacking (told_apart p) (is_among cs)) where
+  module _ (cs : List ChoiceValue) (a : IsApart p (is_among cs)) where
     from : (c : ChoiceValue) → is_among (image_choices p s n cs) c ≡ true → (d : ChoiceValue) × (is_among cs d ≡ true) × (c ≡ image_choice p s n d)
     from c h = let d = in_from_map (image_choice p s n) c cs (in_from_among (image_choices p s n cs) c h) in (d.0, among_from_in cs d.0 d.1, d.2)
 
     to : (d : ChoiceValue) → is_among cs d ≡ true → is_among (image_choices p s n cs) (image_choice p s n d) ≡ true
     to d h = among_from_in (image_choices p s n cs) (image_choice p s n d) (in_map (image_choice p s n) d cs (in_from_among cs d h))
 
-    pub images_pack : IsPacking (told_apart p) (is_among (image_choices p s n cs))
+    pub images_pack : IsApart p (is_among (image_choices p s n cs))
     images_pack = record {
-      placed = λ c h. let d = from c h in subst (λ (e : ChoiceValue). IsPlaced (told_apart p) e) (sym d.2) (placed_there d.0 (a.placed d.0 d.1));
+      placed = λ c h. let d = from c h in subst (λ (e : ChoiceValue). IsPlaced p e) (sym d.2) (placed_there d.0 (a.placed d.0 d.1));
       once = λ c d h g single same.
           let e = from c h in
           let f = from d g in

@@ -15,7 +15,7 @@ use Rattle.poly_cells.proofs.MemberLemmas.{in_from_range, in_to_range}
 use Rattle.poly_cells.proofs.Tables.{all_below, pairs}
 use Rattle.poly_cells.proofs.SymmetryTables.{composed_in, is_composed, rotation_composed}
 use Rattle.poly_cells.proofs.GroupLemmas.{rotation_from_in, in_from_rotation}
-use Rattle.poly_texts.specs.Puzzle.{PuzzleValue, IsPuzzle, has_name}
+use Rattle.poly_texts.specs.Puzzle.{PuzzleValue, IsPuzzle, pieces_of, mirrored_names, has_name}
 use Rattle.poly_place.specs.declared.alike.Group.{Group}
 use Rattle.poly_place.specs.declared.alike.Group.TheVariants.{Rotations, Symmetries}
 use Rattle.poly_place.specs.Placements.{turns_by}
@@ -68,26 +68,26 @@ parity_composed : (a b : ℕ) → a < 48 → b < 48 → is_rotation (composed a 
 parity_composed a b la lb = (booleans_Decides (is_rotation (composed a b)) (beq (is_rotation a) (is_rotation b))).0 (pairs 48 (λ a b. beq (is_rotation (composed a b)) (beq (is_rotation a) (is_rotation b))) all_parities a b la lb)
 
 -- where the piece may be reflected it is turned by all symmetries, and else by the rotations
-turns_all : (p : PuzzleValue) (name m : ℕ) → has_name p.mirrored name ≡ true → m < 48 → IsIn m (turns_of p name)
-turns_all p name m h lt = subst (λ (g : Group). IsIn m (turns_by g)) (sym (cond-true (has_name p.mirrored name) Symmetries Rotations h)) (in_to_range m 0 48 (omega arith) (omega arith))
+turns_all : (p : PuzzleValue) (name m : ℕ) → has_name (mirrored_names p) name ≡ true → m < 48 → IsIn m (turns_of p name)
+turns_all p name m h lt = subst (λ (g : Group). IsIn m (turns_by g)) (sym (cond-true (has_name (mirrored_names p) name) Symmetries Rotations h)) (in_to_range m 0 48 (omega arith) (omega arith))
 
 turns_rotation : (p : PuzzleValue) (name m : ℕ) → m < 48 → is_rotation m ≡ true → IsIn m (turns_of p name)
 turns_rotation p name m lt r =
-    elim (cases_Bool (has_name p.mirrored name)) [
+    elim (cases_Bool (has_name (mirrored_names p) name)) [
       | inl h ↦ turns_all p name m h lt
-      | inr h ↦ subst (λ (g : Group). IsIn m (turns_by g)) (sym (cond-false (has_name p.mirrored name) Symmetries Rotations h)) (in_from_rotation m lt r)
+      | inr h ↦ subst (λ (g : Group). IsIn m (turns_by g)) (sym (cond-false (has_name (mirrored_names p) name) Symmetries Rotations h)) (in_from_rotation m lt r)
     ]
 
 -- what turns it is a symmetry, and a rotation where it may not be reflected
-turn_is : (p : PuzzleValue) (name m : ℕ) → IsIn m (turns_of p name) → (m < 48) × ((has_name p.mirrored name ≡ true) ⊎ (is_rotation m ≡ true))
+turn_is : (p : PuzzleValue) (name m : ℕ) → IsIn m (turns_of p name) → (m < 48) × ((has_name (mirrored_names p) name ≡ true) ⊎ (is_rotation m ≡ true))
 turn_is p name m i =
-    elim (cases_Bool (has_name p.mirrored name)) [
+    elim (cases_Bool (has_name (mirrored_names p) name)) [
       | inl h ↦
-          let there = subst (λ (g : Group). IsIn m (turns_by g)) (cond-true (has_name p.mirrored name) Symmetries Rotations h) i in
+          let there = subst (λ (g : Group). IsIn m (turns_by g)) (cond-true (has_name (mirrored_names p) name) Symmetries Rotations h) i in
           let lt = in_from_range m 0 48 there in
           (omega (arith, lt), inl h)
       | inr h ↦
-          let r = rotation_from_in m (subst (λ (g : Group). IsIn m (turns_by g)) (cond-false (has_name p.mirrored name) Symmetries Rotations h) i) in
+          let r = rotation_from_in m (subst (λ (g : Group). IsIn m (turns_by g)) (cond-false (has_name (mirrored_names p) name) Symmetries Rotations h) i) in
           (r.0, inr r.1)
     ]
 
@@ -152,10 +152,10 @@ module _ (p : PuzzleValue) (z : IsPuzzle p) (group : Group) (n : ℕ) (k : IsKep
     onto = y.onto;
   }
     where
-      by_case : (piece : List Coordinates) (name m l : ℕ) → IsIn (name, piece) p.pieces → (m < 48) × ((has_name p.mirrored name ≡ true) ⊎ (is_rotation m ≡ true)) → l < 48
-          → (is_rotation l ≡ false) ⊎ (has_name p.mirrored (s name) ≡ true) → IsIn (composed (composed n m) l) (turns_of p (s name))
+      by_case : (piece : List Coordinates) (name m l : ℕ) → IsIn (name, piece) (pieces_of p) → (m < 48) × ((has_name (mirrored_names p) name ≡ true) ⊎ (is_rotation m ≡ true)) → l < 48
+          → (is_rotation l ≡ false) ⊎ (has_name (mirrored_names p) (s name) ≡ true) → IsIn (composed (composed n m) l) (turns_of p (s name))
       by_case piece name m l i t ll f =
-          let same = y.mirrored name (in_map (λ (x : ℕ × List Coordinates). x.0) (name, piece) p.pieces i) in
+          let same = y.mirrored name (in_map (λ (x : ℕ × List Coordinates). x.0) (name, piece) (pieces_of p) i) in
           let nm_in = composed_in n m k.limit t.0 in
           let all_in = composed_in (composed n m) l nm_in ll in
           elim f [

@@ -14,6 +14,7 @@ pub mod KeepLemmas
 pub mod KeysTellLemmas
 pub mod LaidLemmas
 pub mod LeftInLemmas
+pub mod MateLemmas
 pub mod MirrorLemmas
 pub mod MovedCoverLemmas
 pub mod MovesLemmas

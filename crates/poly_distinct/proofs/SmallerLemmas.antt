@@ -10,7 +10,7 @@ use Rattle.cover_problem.specs.Problem.{ProblemValue, option_at}
 use Rattle.cover_problem.specs.ExactCover.{IsExactCover}
 use Rattle.cover_problem.proofs.MemberLemmas.{has_at, has_here, has_later, has_append_left, has_append_right, has_append_cases, has_filter, has_filter_in}
 use Rattle.cover_problem.proofs.NumberLemmas.{has_numbers, has_numbers_in, rises_weaker, rises_filter, rises_numbers}
-use Rattle.poly_texts.specs.Puzzle.{PuzzleValue, IsPuzzle}
+use Rattle.poly_texts.specs.Puzzle.{PuzzleValue, IsPuzzle, copy_symbols}
 use Rattle.poly_place.specs.declared.alike.Group.{Group}
 use Rattle.poly_place.specs.Packings.{ChoiceValue, choice_with, Thing, a_node, every_choice, leavings, option_of, leaving_option, packing_problem, choice_at, laying_count, option_count}
 use Rattle.poly_place.specs.Classes.{AreAlike}
@@ -231,7 +231,7 @@ module _ (p : PuzzleValue) (z : IsPuzzle p) (t : Thing) (ns : List ℕ) where
   same_packing q r s = ap (λ (os : List ℕ). packing_with (filter (λ (o : ℕ). nat_le o (laying_count p)) os)) (same_sorted q r s)
     where
       packing_with : List ℕ → PackingValue
-      packing_with os = record { region = p.region; maybe_cells = p.maybe_cells; placements = map (choice_at p) os; symbols = p.symbols }
+      packing_with os = record { region = p.region; maybe_cells = p.maybe_cells; placements = map (choice_at p) os; symbols = copy_symbols p }
 
   pub meets_all : (group : Group) → IsAnchor p t → AreAllowed p group t ns → (small : List (List ℕ)) → AreTheCovers (smaller_problem p t ns) small → MeetAll p group (map (whole_path p t ns) small)
   meets_all group a allowed small covers = record {

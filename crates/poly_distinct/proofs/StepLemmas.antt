@@ -1,9 +1,7 @@
 -- Steps of loops that keep and count what passes a test.
-use Rattle.std.proofs.Common.{◌≡◌, ℕ, suc, ◌+◌, ◌-◌, ◌<◌, ◌≤◌, Bool, true, false, not, ◌&&◌, cond, List, [], ◌∷◌, ◌++◌, map, filter, length, get_or, take, drop, refl, sym, ap, ap₂, subst, ◌∙◌, arith, vec_items}
-use Rattle.std.specs.Prelude.{find, unwrap_or, Some}
-use Rattle.std.specs.Global.{Vec}
+use Rattle.std.proofs.Common.{◌≡◌, ℕ, suc, ◌+◌, ◌-◌, ◌<◌, ◌≤◌, Bool, true, false, not, ◌&&◌, cond, List, [], ◌∷◌, ◌++◌, map, filter, length, get_or, take, refl, sym, ap, ap₂, subst, ◌∙◌, arith}
 use Rattle.std.specs.List.{list_all, range_with_len}
-use Rattle.std.proofs.lemmas.List.{at_drop_more, map-append, append_assoc, length-append, length-take-le, take_all, get_or_default, append-nil}
+use Rattle.std.proofs.lemmas.List.{map-append, append_assoc, length-append, length-take-le, take_all, get_or_default, append-nil}
 use Rattle.std.proofs.lemmas.List.Elements.{filter-append}
 use Rattle.poly_cells.proofs.SetLemmas.{take_next}
 use Rattle.std.proofs.lemmas.List.FromFn.{length-range_with_len, get_or-range_with_len}
@@ -12,12 +10,11 @@ use Rattle.poly_cells.specs.Coordinates.{Coordinates}
 use Rattle.poly_cells.specs.Sets.{IsIn}
 use Rattle.poly_cells.specs.CellTests.{has_cell}
 use Rattle.poly_cells.proofs.CellTestLemmas.{has_from_in}
-use Rattle.poly_texts.specs.Puzzle.{PuzzleValue, has_name}
+use Rattle.poly_texts.specs.Puzzle.{PuzzleValue}
 use Rattle.poly_place.specs.Packings.{must_fill}
 use Rattle.poly_place.proofs.WalkLemmas.{item_in}
 use mir.Val.{bool_byte}
 use Rattle.poly_place.proofs.CountLemmas.{one_kept, one_left, filter_short}
-use Rattle.poly_distinct.specs.Exchange.{first_group}
 
 -- ---- what passes a test
 
@@ -85,21 +82,6 @@ pub numbers_next : (f : ℕ → Bool) (n i : ℕ) → i < n → list_all f (numb
 numbers_next f n i lt =
     ap (λ k. list_all f (numbers k (i + 1))) (let e : n - i ≡ suc (n - (i + 1)) = omega arith in e)
     ∙ ap (λ k. f (i + 1) && list_all f (numbers (n - (i + 1)) k)) (let e : suc (i + 1) ≡ i + 1 + 1 = omega arith in e)
-
--- ---- groups in vectors
-
-group_case : (gs : List (Vec ℕ)) (i : ℕ) (g : Vec ℕ) (name : ℕ) (b : Bool) → i < length gs → g ≡ get_or gs i g → has_name g.items name ≡ b
-    → first_group (map vec_items (drop i gs)) name ≡ unwrap_or (cond b (Some g.items) (find (λ group. has_name group name) (map vec_items (drop (i + 1) gs)))) []
-group_case gs i g name b lt is t =
-    ap (λ (hs : List (Vec ℕ)). first_group (map vec_items hs) name) (at_drop_more (λ ys. ys) gs i g lt ∙ ap (λ (h : Vec ℕ). h ∷ drop (i + 1) gs) (sym is))
-    ∙ ap (λ c. unwrap_or (cond c (Some g.items) (find (λ group. has_name group name) (map vec_items (drop (i + 1) gs)))) []) t
-
-pub group_here : (gs : List (Vec ℕ)) (i : ℕ) (g : Vec ℕ) (name : ℕ) → i < length gs → g ≡ get_or gs i g → has_name g.items name ≡ true → first_group (map vec_items (drop i gs)) name ≡ g.items
-group_here gs i g name lt is t = group_case gs i g name true lt is t
-
-pub group_later : (gs : List (Vec ℕ)) (i : ℕ) (g : Vec ℕ) (name : ℕ) → i < length gs → g ≡ get_or gs i g → has_name g.items name ≡ false
-    → first_group (map vec_items (drop (i + 1) gs)) name ≡ first_group (map vec_items (drop i gs)) name
-group_later gs i g name lt is t = sym (group_case gs i g name false lt is t)
 
 -- ---- counts of what is so
 

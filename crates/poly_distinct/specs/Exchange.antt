@@ -10,7 +10,7 @@ use Rattle.std.proofs.Math.Bool.{beq}
 use Rattle.poly_cells.specs.Coordinates.{Coordinates}
 use Rattle.poly_cells.specs.Shapes.{turned}
 use Rattle.poly_cells.specs.Symmetries.{is_rotation}
-use Rattle.poly_texts.specs.Puzzle.{PuzzleValue, has_name, is_needed, is_spare}
+use Rattle.poly_texts.specs.Puzzle.{PuzzleValue, pieces_of, mirrored_names, equal_names, has_name, is_needed, is_spare}
 use Rattle.poly_place.specs.Placements.{cells_cmp}
 use Rattle.poly_place.specs.Packings.{is_any}
 use Rattle.poly_distinct.specs.Distinct.{are_mirrors}
@@ -31,12 +31,12 @@ first_group groups name = unwrap_or (find (λ group. has_name group name) groups
 
 -- the group of equal pieces to which one belongs, or none
 abbrev pub mates_of : PuzzleValue → ℕ → List ℕ
-mates_of p name = first_group p.equal name
+mates_of p name = first_group (equal_names p) name
 
 -- how the piece may be used
 abbrev pub role_of : PuzzleValue → ℕ → RoleValue
 role_of p name = record {
-  mirrored = has_name p.mirrored name;
+  mirrored = has_name (mirrored_names p) name;
   needed = is_needed p name;
   any = is_any p name;
   place = position_or_len (λ n. n == name) (mates_of p name);
@@ -51,9 +51,9 @@ same_role a b =
     && ((a.place == b.place) && ((a.mates == b.mates) && (a.spares == b.spares)))))
 
 -- a piece with its name; the forms of it that may be laid, and those of its mirror image; and how it may be used
-pub record KindValue : Type 0 where
+pub record FormedValue : Type 0 where
   pub name : ℕ
-  pub piece : List Coordinates
+  pub cells : List Coordinates
   pub forms : List (List Coordinates)
   pub images : List (List Coordinates)
   pub role : RoleValue
@@ -67,45 +67,45 @@ abbrev pub takes_symmetry : Bool → Bool → ℕ → Bool
 takes_symmetry rotations both n = beq (is_rotation n) rotations || both
 
 -- a piece of the puzzle so
-abbrev pub piece_kind : PuzzleValue → ℕ × List Coordinates → KindValue
-piece_kind p named = record {
+abbrev pub formed_piece : PuzzleValue → ℕ × List Coordinates → FormedValue
+formed_piece p named = record {
   name = named.0;
-  piece = named.1;
-  forms = forms_by (takes_symmetry true (has_name p.mirrored (named.0))) (named.1);
-  images = forms_by (takes_symmetry false (has_name p.mirrored (named.0))) (named.1);
+  cells = named.1;
+  forms = forms_by (takes_symmetry true (has_name (mirrored_names p) (named.0))) (named.1);
+  images = forms_by (takes_symmetry false (has_name (mirrored_names p) (named.0))) (named.1);
   role = role_of p (named.0);
 }
 
 -- the puzzle's pieces so
-abbrev pub kinds_of : PuzzleValue → List KindValue
-kinds_of p = map (piece_kind p) p.pieces
+abbrev pub formed_pieces : PuzzleValue → List FormedValue
+formed_pieces p = map (formed_piece p) (pieces_of p)
 
 -- whether a piece is one of these forms
 abbrev pub has_form : List (List Coordinates) → List Coordinates → Bool
 has_form forms piece = list_any (λ form. is_eq (cells_cmp form piece)) forms
 
 -- whether l is k turned, and may be used as k
-abbrev pub is_like : KindValue → KindValue → Bool
-is_like k l = has_form l.forms k.piece && same_role l.role k.role
+abbrev pub is_like : FormedValue → FormedValue → Bool
+is_like k l = has_form l.forms k.cells && same_role l.role k.role
 
 -- whether k is the mirror image of l, turned, and l may be used as k
-abbrev pub is_image : KindValue → KindValue → Bool
-is_image k l = has_form l.images k.piece && same_role l.role k.role
+abbrev pub is_image : FormedValue → FormedValue → Bool
+is_image k l = has_form l.images k.cells && same_role l.role k.role
 
 -- how many like pieces come before a piece
-abbrev pub rank_among : List KindValue → KindValue → ℕ
+abbrev pub rank_among : List FormedValue → FormedValue → ℕ
 rank_among ks k = length (filter (is_like k) (take_while (λ l. not (l.name == k.name)) ks))
 
 -- the piece that stands among the mirror images of a piece where it stands itself among those that are like it
-abbrev pub image_of_kind : List KindValue → KindValue → Option KindValue
-image_of_kind ks k = find (λ l. is_image k l && (rank_among ks l == rank_among ks k)) ks
+abbrev pub image_of_piece : List FormedValue → FormedValue → Option FormedValue
+image_of_piece ks k = find (λ l. is_image k l && (rank_among ks l == rank_among ks k)) ks
 
 -- the name of that piece, or of the piece itself where there is none
-abbrev pub partner : List KindValue → KindValue → ℕ
-partner ks k = unwrap_or (option_map (λ l. l.name) (image_of_kind ks k)) k.name
+abbrev pub partner : List FormedValue → FormedValue → ℕ
+partner ks k = unwrap_or (option_map (λ l. l.name) (image_of_piece ks k)) k.name
 
 -- each name with the one that takes its place
-abbrev pub pairs_of : List KindValue → List (ℕ × ℕ)
+abbrev pub pairs_of : List FormedValue → List (ℕ × ℕ)
 pairs_of ks = map (λ k. (k.name, partner ks k)) ks
 
 -- the second of the pair with this name as its first, or the name itself where there is none
@@ -115,7 +115,7 @@ second_of pairs name = unwrap_or (option_map (λ (pair : ℕ × ℕ). pair.1) (f
 -- the name that takes the place of a name if packings are reflected: that of the piece which is its mirror image turned and may be
 -- used as it; of several, each its own
 unfoldable pub mirror_name : PuzzleValue → ℕ → ℕ
-mirror_name p = second_of (pairs_of (kinds_of p))
+mirror_name p = second_of (pairs_of (formed_pieces p))
 
 -- whether that brings all pieces to their mirror images, so that packings may be reflected
 unfoldable pub has_mirrors : PuzzleValue → Bool

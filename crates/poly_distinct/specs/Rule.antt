@@ -6,7 +6,7 @@ use Rattle.std.specs.Prelude.{ℕ, ◌*◌, ◌==◌, nat_lt, Bool, false, not, 
 use Rattle.std.specs.Prelude.{option_map}
 use Rattle.std.specs.Prelude.{find}
 use Rattle.std.specs.List.{list_all}
-use Rattle.poly_texts.specs.Puzzle.{PuzzleValue, names_of, has_name, is_needed}
+use Rattle.poly_texts.specs.Puzzle.{PuzzleValue, pieces_of, equal_names, names_of, has_name, is_needed}
 use Rattle.shared_words.specs.Lists.{has, numbers}
 use Rattle.cover_problem.specs.Problem.{ProblemValue}
 use Rattle.poly_place.specs.declared.alike.Group.{Group}
@@ -61,7 +61,7 @@ anchor_tally p group a = tally_by p (symmetries_at p group (thing_of a)) a
 
 -- whether no other piece is equal to the one with this name
 abbrev pub is_alone : PuzzleValue → ℕ → Bool
-is_alone p name = list_all (λ group. not (has_name group name)) p.equal
+is_alone p name = list_all (λ group. not (has_name group name)) (equal_names p)
 
 -- whether the piece is laid in each packing, and no other one is equal to it
 abbrev pub is_single : PuzzleValue → ℕ → Bool
@@ -69,7 +69,7 @@ is_single p name = is_needed p name && is_alone p name
 
 -- the pieces that are so
 abbrev pub single_pieces : PuzzleValue → List Anchor
-single_pieces p = map Piece (filter (is_single p) (names_of p.pieces))
+single_pieces p = map Piece (filter (is_single p) (names_of (pieces_of p)))
 
 -- they and the cells that have to be filled, in the order of the items
 abbrev pub anchors_of : PuzzleValue → List Anchor

@@ -2,13 +2,11 @@
 ghost use Rattle.std.specs.Prelude.{◌≡◌, ◌==◌, ◌&&◌, ◌||◌, not};
 ghost use Rattle.std.specs.List.{list_all, list_any};
 ghost use Rattle.shared_words.specs.Answers.{Returns, ReturnsItems};
-ghost use Rattle.std.proofs.Math.Bool.{beq};
-ghost use Rattle.poly_texts.specs.Puzzle.{has_name, is_needed, is_spare};
-ghost use Rattle.poly_place.specs.Packings.{is_any};
+ghost use Rattle.poly_texts.specs.Puzzle.{equal_names, has_name};
 ghost use Rattle.poly_distinct.specs.Distinct.{are_equal, are_mirrors, keeps_flags, tells_names};
-ghost use Rattle.poly_distinct.specs.Exchange.{mirror_name, has_mirrors, has_form, kinds_of, pairs_of, partner, rank_among, second_of};
+ghost use Rattle.poly_distinct.specs.Exchange.{mirror_name, has_mirrors, has_form, formed_pieces, pairs_of, partner, rank_among, second_of};
 
-use crate::kind::{PieceKind, is_needed};
+use crate::formed::{FormedPiece, is_needed, mates};
 use poly_texts::{PieceName, Puzzle};
 use std::alloc::{AllocError, Global};
 use std::marker::Model;
@@ -24,13 +22,13 @@ pub struct MirrorNames<'p> {
 impl<'p> Model for MirrorNames<'p> {
     ghost use Rattle.std.specs.Prelude.{◌≡◌};
     ghost use Rattle.poly_texts.specs.Puzzle.{PuzzleValue};
-    ghost use Rattle.poly_distinct.specs.Exchange.{has_mirrors, kinds_of, pairs_of};
+    ghost use Rattle.poly_distinct.specs.Exchange.{has_mirrors, formed_pieces, pairs_of};
 
     ghost Value = { PuzzleValue };
 
     ghost view = { λ a. a.puzzle.now };
 
-    ghost invariant = { λ a. (a.pairs.items ≡ pairs_of (kinds_of a.puzzle.now)) × (a.whole ≡ has_mirrors a.puzzle.now) };
+    ghost invariant = { λ a. (a.pairs.items ≡ pairs_of (formed_pieces a.puzzle.now)) × (a.whole ≡ has_mirrors a.puzzle.now) };
 }
 
 impl<'p> MirrorNames<'p> {
@@ -38,9 +36,9 @@ impl<'p> MirrorNames<'p> {
     pub fn of(alloc: Global, puzzle: &'p Puzzle) -> Result<MirrorNames<'p>, AllocError>
         ensures { Returns result puzzle.now }
     {
-        let kinds = kinds(alloc, puzzle)?;
-        let pairs = pairs(alloc, kinds.as_slice())?;
-        let whole = are_mirrors(puzzle, kinds.as_slice(), pairs.as_slice());
+        let pieces = formed_pieces(alloc, puzzle)?;
+        let pairs = pairs(alloc, pieces.as_slice())?;
+        let whole = are_mirrors(puzzle, pieces.as_slice(), pairs.as_slice());
         Ok(MirrorNames {
             puzzle,
             pairs,
@@ -64,53 +62,53 @@ impl<'p> MirrorNames<'p> {
 }
 
 /// The puzzle's pieces with their forms.
-fn kinds(alloc: Global, puzzle: &Puzzle) -> Result<Vec<PieceKind>, AllocError>
-    ensures { ReturnsItems result (kinds_of puzzle.now) }
+fn formed_pieces(alloc: Global, puzzle: &Puzzle) -> Result<Vec<FormedPiece>, AllocError>
+    ensures { ReturnsItems result (formed_pieces puzzle.now) }
 {
     let pieces = puzzle.pieces();
-    let mut kinds = Vec::new(alloc);
+    let mut formed = Vec::new(alloc);
     for k in 0..pieces.len() {
-        let (name, piece) = pieces.get_index(k).unwrap();
-        let kind = PieceKind::of(alloc, puzzle, *name, piece)?;
-        kinds.push(kind)?;
+        let (name, shape) = pieces.get_index(k).unwrap();
+        let piece = FormedPiece::of(alloc, puzzle, *name, shape)?;
+        formed.push(piece)?;
     }
-    Ok(kinds)
+    Ok(formed)
 }
 
 /// Each name with the one that takes its place.
-fn pairs(alloc: Global, kinds: &[PieceKind]) -> Result<Vec<(PieceName, PieceName)>, AllocError>
-    ensures { ReturnsItems result (pairs_of kinds.now) }
+fn pairs(alloc: Global, pieces: &[FormedPiece]) -> Result<Vec<(PieceName, PieceName)>, AllocError>
+    ensures { ReturnsItems result (pairs_of pieces.now) }
 {
-    let mut pairs = Vec::with_capacity(alloc, kinds.len())?;
-    for kind in kinds {
-        pairs.push((kind.name(), partner(kinds, kind)))?;
+    let mut pairs = Vec::with_capacity(alloc, pieces.len())?;
+    for piece in pieces {
+        pairs.push((piece.name(), partner(pieces, piece)))?;
     }
     Ok(pairs)
 }
 
 /// The name of the piece that stands among the mirror images of one where that stands itself among those that are like it, or its own name.
-fn partner(kinds: &[PieceKind], kind: &PieceKind) -> PieceName
-    ensures { result ≡ partner kinds.now kind.now }
+fn partner(pieces: &[FormedPiece], piece: &FormedPiece) -> PieceName
+    ensures { result ≡ partner pieces.now piece.now }
 {
-    let place = rank(kinds, kind);
-    for other in kinds {
-        if kind.is_image(other) && rank(kinds, other) == place {
+    let place = rank(pieces, piece);
+    for other in pieces {
+        if piece.is_image(other) && rank(pieces, other) == place {
             return other.name();
         }
     }
-    kind.name()
+    piece.name()
 }
 
 /// How many like pieces come before a piece.
-fn rank(kinds: &[PieceKind], kind: &PieceKind) -> usize
-    ensures { result ≡ rank_among kinds.now kind.now }
+fn rank(pieces: &[FormedPiece], piece: &FormedPiece) -> usize
+    ensures { result ≡ rank_among pieces.now piece.now }
 {
     let mut place = 0;
-    for other in kinds {
-        if other.name() == kind.name() {
+    for other in pieces {
+        if other.name() == piece.name() {
             return place;
         }
-        place += usize::from(kind.is_like(other));
+        place += usize::from(piece.is_like(other));
     }
     place
 }
@@ -128,15 +126,15 @@ fn second_of(pairs: &[(PieceName, PieceName)], name: PieceName) -> PieceName
 }
 
 /// Whether the pairs bring each piece to its mirror image, and are an exchange of names.
-fn are_mirrors(puzzle: &Puzzle, kinds: &[PieceKind], pairs: &[(PieceName, PieceName)]) -> bool
-    requires { kinds.now ≡ kinds_of puzzle.now }
+fn are_mirrors(puzzle: &Puzzle, pieces: &[FormedPiece], pairs: &[(PieceName, PieceName)]) -> bool
+    requires { pieces.now ≡ formed_pieces puzzle.now }
     ensures { result ≡ are_mirrors puzzle.now (second_of pairs.now) }
 {
     all_four(
-        mirror_pieces(kinds, pairs),
-        keep_flags(puzzle, kinds, pairs),
-        tell_names(puzzle, kinds, pairs),
-        are_onto(kinds, pairs),
+        mirror_pieces(pieces, pairs),
+        keep_flags(puzzle, pieces, pairs),
+        tell_names(puzzle, pieces, pairs),
+        are_onto(pieces, pairs),
     )
 }
 
@@ -148,13 +146,13 @@ fn all_four(first: bool, second: bool, third: bool, fourth: bool) -> bool
 }
 
 /// Whether each piece is the mirror image of the one that takes its place.
-fn mirror_pieces(kinds: &[PieceKind], pairs: &[(PieceName, PieceName)]) -> bool
+fn mirror_pieces(pieces: &[FormedPiece], pairs: &[(PieceName, PieceName)]) -> bool
     ensures { result ≡ list_all (λ k. list_any
-        (λ l. (l.name == second_of pairs.now k.name) && has_form l.images k.piece) kinds.now)
-        kinds.now }
+        (λ l. (l.name == second_of pairs.now k.name) && has_form l.images k.cells) pieces.now)
+        pieces.now }
 {
-    for kind in kinds {
-        if !mirrors_piece(kinds, pairs, kind) {
+    for piece in pieces {
+        if !mirrors_piece(pieces, pairs, piece) {
             return false;
         }
     }
@@ -162,14 +160,18 @@ fn mirror_pieces(kinds: &[PieceKind], pairs: &[(PieceName, PieceName)]) -> bool
 }
 
 /// Whether a piece is the mirror image of the one that takes its place.
-fn mirrors_piece(kinds: &[PieceKind], pairs: &[(PieceName, PieceName)], kind: &PieceKind) -> bool
+fn mirrors_piece(
+    pieces: &[FormedPiece],
+    pairs: &[(PieceName, PieceName)],
+    piece: &FormedPiece,
+) -> bool
     ensures { result ≡ list_any
-        (λ l. (l.name == second_of pairs.now kind.now.name) && has_form l.images kind.now.piece)
-        kinds.now }
+        (λ l. (l.name == second_of pairs.now piece.now.name) && has_form l.images piece.now.cells)
+        pieces.now }
 {
-    let name = second_of(pairs, kind.name());
-    for other in kinds {
-        if other.name() == name && kind.is_mirrored(other) {
+    let name = second_of(pairs, piece.name());
+    for other in pieces {
+        if other.name() == name && piece.is_mirrored(other) {
             return true;
         }
     }
@@ -177,12 +179,12 @@ fn mirrors_piece(kinds: &[PieceKind], pairs: &[(PieceName, PieceName)], kind: &P
 }
 
 /// Whether each piece may be used as the one that takes its place.
-fn keep_flags(puzzle: &Puzzle, kinds: &[PieceKind], pairs: &[(PieceName, PieceName)]) -> bool
+fn keep_flags(puzzle: &Puzzle, pieces: &[FormedPiece], pairs: &[(PieceName, PieceName)]) -> bool
     ensures { result ≡ list_all (λ k. keeps_flags puzzle.now (second_of pairs.now) k.name)
-        kinds.now }
+        pieces.now }
 {
-    for kind in kinds {
-        if !keeps_flags(puzzle, pairs, kind.name()) {
+    for piece in pieces {
+        if !keeps_flags(puzzle, pairs, piece.name()) {
             return false;
         }
     }
@@ -195,49 +197,20 @@ fn keeps_flags(puzzle: &Puzzle, pairs: &[(PieceName, PieceName)], name: PieceNam
 {
     let other = second_of(pairs, name);
     all_four(
-        mirrored_alike(puzzle, other, name),
-        needed_alike(puzzle, other, name),
-        any_alike(puzzle, other, name),
-        spare_alike(puzzle, other, name),
+        puzzle.is_mirrored(other) == puzzle.is_mirrored(name),
+        is_needed(puzzle, other) == is_needed(puzzle, name),
+        puzzle.is_any(other) == puzzle.is_any(name),
+        puzzle.is_spare(other) == puzzle.is_spare(name),
     )
 }
 
-/// Whether both pieces may be reflected, or neither.
-fn mirrored_alike(puzzle: &Puzzle, other: PieceName, name: PieceName) -> bool
-    ensures { result ≡ beq (has_name puzzle.now.mirrored other)
-        (has_name puzzle.now.mirrored name) }
-{
-    puzzle.mirrored().contains(&other) == puzzle.mirrored().contains(&name)
-}
-
-/// Whether both pieces have to be used, or neither.
-fn needed_alike(puzzle: &Puzzle, other: PieceName, name: PieceName) -> bool
-    ensures { result ≡ beq (is_needed puzzle.now other) (is_needed puzzle.now name) }
-{
-    is_needed(puzzle, other) == is_needed(puzzle, name)
-}
-
-/// Whether both pieces may be used any number of times, or neither.
-fn any_alike(puzzle: &Puzzle, other: PieceName, name: PieceName) -> bool
-    ensures { result ≡ beq (is_any puzzle.now other) (is_any puzzle.now name) }
-{
-    puzzle.any_pieces().contains(&other) == puzzle.any_pieces().contains(&name)
-}
-
-/// Whether both pieces are spare, or neither.
-fn spare_alike(puzzle: &Puzzle, other: PieceName, name: PieceName) -> bool
-    ensures { result ≡ beq (is_spare puzzle.now other) (is_spare puzzle.now name) }
-{
-    puzzle.spare().contains(&other) == puzzle.spare().contains(&name)
-}
-
 /// Whether pieces are equal, or the same, where those are that take their places.
-fn tell_names(puzzle: &Puzzle, kinds: &[PieceKind], pairs: &[(PieceName, PieceName)]) -> bool
+fn tell_names(puzzle: &Puzzle, pieces: &[FormedPiece], pairs: &[(PieceName, PieceName)]) -> bool
     ensures { result ≡ list_all (λ k. list_all
-        (λ l. tells_names puzzle.now (second_of pairs.now) k.name l.name) kinds.now) kinds.now }
+        (λ l. tells_names puzzle.now (second_of pairs.now) k.name l.name) pieces.now) pieces.now }
 {
-    for kind in kinds {
-        if !tell_name(puzzle, kinds, pairs, kind.name()) {
+    for piece in pieces {
+        if !tell_name(puzzle, pieces, pairs, piece.name()) {
             return false;
         }
     }
@@ -247,16 +220,16 @@ fn tell_names(puzzle: &Puzzle, kinds: &[PieceKind], pairs: &[(PieceName, PieceNa
 /// Whether a piece is equal to others, or the same, where those are that take their places.
 fn tell_name(
     puzzle: &Puzzle,
-    kinds: &[PieceKind],
+    pieces: &[FormedPiece],
     pairs: &[(PieceName, PieceName)],
     name: PieceName,
 ) -> bool
     ensures { result ≡ list_all
-        (λ l. tells_names puzzle.now (second_of pairs.now) name l.name) kinds.now }
+        (λ l. tells_names puzzle.now (second_of pairs.now) name l.name) pieces.now }
 {
     let first = second_of(pairs, name);
-    for kind in kinds {
-        let other = kind.name();
+    for piece in pieces {
+        let other = piece.name();
         if !tells(puzzle, first, second_of(pairs, other), name, other) {
             return false;
         }
@@ -288,32 +261,19 @@ fn are_equal(puzzle: &Puzzle, name: PieceName, other: PieceName) -> bool
 
 /// Whether one of the groups of equal pieces has both names.
 fn are_mates(puzzle: &Puzzle, name: PieceName, other: PieceName) -> bool
-    ensures { result ≡ list_any (λ g. has_name g name && has_name g other) puzzle.now.equal }
+    ensures { result ≡ list_any (λ g. has_name g name && has_name g other) (equal_names puzzle.now) }
 {
-    have_both(puzzle.equal(), name, other)
-}
-
-/// Whether one of the groups has both names.
-fn have_both(groups: &[Vec<PieceName>], name: PieceName, other: PieceName) -> bool
-    ensures { result ≡ list_any (λ g. has_name g.items name && has_name g.items other) groups.now }
-{
-    groups.iter().any(|group| has_both(group, name, other))
-}
-
-/// Whether a group has both names.
-fn has_both(group: &Vec<PieceName>, name: PieceName, other: PieceName) -> bool
-    ensures { result ≡ (has_name group.now.items name && has_name group.now.items other) }
-{
-    group.contains(&name) && group.contains(&other)
+    puzzle.is_sound();
+    mates(puzzle, name).contains(&other)
 }
 
 /// Whether each piece takes the place of one.
-fn are_onto(kinds: &[PieceKind], pairs: &[(PieceName, PieceName)]) -> bool
+fn are_onto(pieces: &[FormedPiece], pairs: &[(PieceName, PieceName)]) -> bool
     ensures { result ≡ list_all (λ k. list_any
-        (λ l. second_of pairs.now l.name == k.name) kinds.now) kinds.now }
+        (λ l. second_of pairs.now l.name == k.name) pieces.now) pieces.now }
 {
-    for kind in kinds {
-        if !is_reached(kinds, pairs, kind.name()) {
+    for piece in pieces {
+        if !is_reached(pieces, pairs, piece.name()) {
             return false;
         }
     }
@@ -321,10 +281,10 @@ fn are_onto(kinds: &[PieceKind], pairs: &[(PieceName, PieceName)]) -> bool
 }
 
 /// Whether a piece takes the place of one.
-fn is_reached(kinds: &[PieceKind], pairs: &[(PieceName, PieceName)], name: PieceName) -> bool
-    ensures { result ≡ list_any (λ l. second_of pairs.now l.name == name) kinds.now }
+fn is_reached(pieces: &[FormedPiece], pairs: &[(PieceName, PieceName)], name: PieceName) -> bool
+    ensures { result ≡ list_any (λ l. second_of pairs.now l.name == name) pieces.now }
 {
-    for other in kinds {
+    for other in pieces {
         if second_of(pairs, other.name()) == name {
             return true;
         }

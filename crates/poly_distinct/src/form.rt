@@ -1,7 +1,7 @@
 //! The least form of a packing, told by its form as it lies.
 ghost use Rattle.std.specs.Prelude.{◌≡◌, ◌+◌, ◌<◌, IsTrue, length, slice_index};
 ghost use Rattle.shared_words.specs.Answers.{ReturnsItems};
-ghost use Rattle.poly_texts.specs.Lists.{lists_of};
+ghost use Rattle.poly_place.specs.Lists.{lists_of};
 ghost use Rattle.poly_place.specs.Forms.{form_by, least_from, lesser, AreBelow};
 ghost use Rattle.poly_distinct.specs.Form.{with_noted, first_place, second_place, EachIsMove, IsMove};
 

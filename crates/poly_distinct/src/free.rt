@@ -2,7 +2,7 @@
 ghost use Rattle.std.specs.Prelude.{◌≡◌, ◌==◌, map};
 ghost use Rattle.poly_cells.specs.Sets.{in_order};
 ghost use Rattle.shared_words.specs.Answers.{Returns};
-ghost use Rattle.poly_texts.specs.Lists.{lists_of};
+ghost use Rattle.poly_place.specs.Lists.{lists_of};
 ghost use Rattle.poly_place.specs.Answers.{ReturnsLists};
 ghost use Rattle.poly_place.specs.Forms.{forms_cmp};
 ghost use Rattle.poly_place.specs.Placements.{cells_cmp};

@@ -4,7 +4,7 @@ ghost use Rattle.std.specs.Ordering.{nat_cmp};
 ghost use Rattle.poly_cells.specs.Coordinates.{Coordinates};
 ghost use Rattle.poly_cells.specs.Sets.{IsIn, in_order};
 ghost use Rattle.shared_words.specs.Answers.{Returns, ReturnsItems};
-ghost use Rattle.poly_texts.specs.Lists.{lists_of};
+ghost use Rattle.poly_place.specs.Lists.{lists_of};
 ghost use Rattle.poly_place.specs.Packings.{place_of};
 ghost use Rattle.poly_place.specs.Forms.{carried, forms_cmp, AreBelow, AreCarriers};
 ghost use Rattle.poly_place.specs.Answers.{AddsLists, ReturnsLists};
@@ -32,7 +32,7 @@ pub struct Moves<'p> {
 }
 
 impl<'p> Model for Moves<'p> {
-    ghost use Rattle.poly_texts.specs.Lists.{lists_of};
+    ghost use Rattle.poly_place.specs.Lists.{lists_of};
     ghost use Rattle.poly_distinct.specs.Moves.{MovesValue, AreMoves};
 
     ghost Value = { MovesValue };

@@ -4,7 +4,7 @@ ghost use Rattle.shared_words.specs.Lists.{has};
 ghost use Rattle.poly_cells.specs.Shapes.{IsShape};
 ghost use Rattle.cover_problem.specs.ExactCover.{IsExactCover};
 ghost use Rattle.shared_words.specs.Answers.{Returns, ReturnsItems};
-ghost use Rattle.poly_texts.specs.Lists.{lists_of};
+ghost use Rattle.poly_place.specs.Lists.{lists_of};
 ghost use Rattle.poly_place.specs.Packings.{packing_problem};
 ghost use Rattle.poly_place.specs.Chosen.{packing_value};
 ghost use Rattle.poly_place.specs.Compiled.{ArePlacesOf};

@@ -1,11 +1,11 @@
 //! At which piece or cell choices are left out.
-ghost use Rattle.std.specs.Prelude.{◌≡◌, ◌+◌, ◌<◌, ◌≤◌, true, false, not, cond, map, filter, length, option_map, slice_index_or, IfOk};
+ghost use Rattle.std.specs.Prelude.{◌≡◌, ◌+◌, ◌<◌, ◌≤◌, true, false, cond, map, filter, length, option_map, slice_index_or, IfOk};
 ghost use Rattle.std.specs.Prelude.{ℕ, nat_lt, slice_index};
 ghost use Rattle.std.specs.List.{list_all};
 ghost use Rattle.shared_words.specs.Answers.{Returns, ReturnsItems, Adds};
 ghost use Rattle.shared_words.specs.Lists.{numbers};
 ghost use Rattle.poly_cells.specs.Sets.{IsIn};
-ghost use Rattle.poly_texts.specs.Puzzle.{IsPuzzle, has_name};
+ghost use Rattle.poly_texts.specs.Puzzle.{IsPuzzle};
 ghost use Rattle.poly_place.specs.declared.alike.Group.TheVariants.{Rotations};
 ghost use Rattle.poly_place.specs.Packings.{every_choice};
 ghost use Rattle.poly_distinct.specs.Distinct.{is_at};
@@ -20,7 +20,7 @@ ghost use Rattle.poly_distinct.specs.UpTo.{moves_of};
 use crate::anchor::Anchor;
 use crate::counts::option_counts;
 use crate::exchange::MirrorNames;
-use crate::kind::is_needed;
+use crate::formed::{is_needed, mates};
 use crate::moves::Moves;
 use crate::smaller::is_at;
 use crate::tally::{AnchorTally, add_cells, leaves_out};
@@ -178,14 +178,7 @@ fn is_single(puzzle: &Puzzle, name: PieceName) -> bool
 fn is_alone(puzzle: &Puzzle, name: PieceName) -> bool
     ensures { result ≡ is_alone puzzle.now name }
 {
-    none_has(puzzle.equal(), name)
-}
-
-/// Whether none of the groups has the name.
-fn none_has(groups: &[Vec<PieceName>], name: PieceName) -> bool
-    ensures { result ≡ list_all (λ g. not (has_name g.items name)) groups.now }
-{
-    groups.iter().all(|group| !group.contains(&name))
+    mates(puzzle, name).is_empty()
 }
 
 /// How many choices are at a thing, and how many of them are kept.

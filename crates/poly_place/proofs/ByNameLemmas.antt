@@ -16,14 +16,14 @@ use Rattle.poly_texts.specs.Puzzle.{PuzzleValue, IsPuzzle}
 use Rattle.poly_place.specs.declared.alike.Group.{Group}
 use Rattle.poly_place.specs.declared.alike.Group.TheVariants.{Rotations, Symmetries}
 use Rattle.poly_place.specs.Placements.{turns_by}
-use Rattle.poly_place.specs.Packings.{ChoiceValue, choice_with, first_cell, is_any, turning_group, IsPlaced, IsPacking}
+use Rattle.poly_place.specs.Packings.{ChoiceValue, choice_with, first_cell, is_any, turning_group, IsPlaced}
 use Rattle.poly_place.specs.Chosen.{is_among}
-use Rattle.poly_place.specs.Swaps.{told_apart, AreEqual, IsSwap}
+use Rattle.poly_place.specs.Swaps.{IsApart, AreEqual, IsSwap}
 use Rattle.poly_place.specs.Classes.{IsSent, is_empty_cell, same_part, Carries, AreAlike}
 use Rattle.poly_place.specs.Labelled.{packing_with, ThenSwaps, CarriesNames, AreAlikeByName, OthersDiffer, AlikeByNameThenSwaps, ClassesAreLabelledByName}
 use Rattle.poly_place.proofs.PlacedLemmas.{has_shapes}
 use Rattle.poly_place.proofs.StandLemmas.{least_in}
-use Rattle.poly_place.proofs.LaidLemmas.{placed_on, placed_apart, moved_to}
+use Rattle.poly_place.proofs.LaidLemmas.{moved_to}
 use Rattle.poly_place.proofs.CarryLemmas.{minus, undone, image_composed, image_undone}
 use Rattle.poly_place.proofs.PartLemmas.{HaveOne, AreApart, one_of_part, part_of_one, not_empty, empty_if, parts_if, one_part, some_or_none}
 use Rattle.poly_place.proofs.ChosenLemmas.{in_from_among, among_from_in}
@@ -67,18 +67,18 @@ equal_back p m n e = elim e [ inl same ↦ inl (sym same) | inr h ↦ inr (h.0, 
 
 -- ---- two packings in which the pieces are told apart
 
-module _ (p : PuzzleValue) (z : IsPuzzle p) (cs ds : List ChoiceValue) (k : IsPacking (told_apart p) (is_among cs)) (l : IsPacking (told_apart p) (is_among ds)) (n : ℕ) (d : Point) (low : n < 48) where
+module _ (p : PuzzleValue) (z : IsPuzzle p) (cs ds : List ChoiceValue) (k : IsApart p (is_among cs)) (l : IsApart p (is_among ds)) (n : ℕ) (d : Point) (low : n < 48) where
   here_apart : AreApart cs
-  here_apart = lists_apart (told_apart p) cs k
+  here_apart = lists_apart p cs k
 
   there_apart : AreApart ds
-  there_apart = lists_apart (told_apart p) ds l
+  there_apart = lists_apart p ds l
 
   here_placed : (c : ChoiceValue) → IsIn c cs → IsPlaced p c
-  here_placed c i = placed_on p c (k.placed c (among_from_in cs c i))
+  here_placed c i = k.placed c (among_from_in cs c i)
 
   there_placed : (e : ChoiceValue) → IsIn e ds → IsPlaced p e
-  there_placed e i = placed_on p e (l.placed e (among_from_in ds e i))
+  there_placed e i = l.placed e (among_from_in ds e i)
 
   -- a cell of each choice
   here_some : (c : ChoiceValue) → IsIn c cs → IsIn (first_cell c.cells) c.cells
@@ -256,10 +256,10 @@ module _ (p : PuzzleValue) (z : IsPuzzle p) (cs ds : List ChoiceValue) (k : IsPa
             | inr g ↦ moved_to p z g.0 e.name c.name e.cells g.1 g.3 g.2 h
           ]
 
-      all_placed : (b : ChoiceValue) → IsCarried b → IsPlaced (told_apart p) b
+      all_placed : (b : ChoiceValue) → IsCarried b → IsPlaced p b
       all_placed b q =
-          subst (λ (a : ChoiceValue). IsPlaced (told_apart p) a) (sym q.is)
-          (placed_apart p (choice_with q.from.name q.to.cells) (placed_for q.from q.to (there_placed q.to q.there) (names_equal q.from q.to q.here q.there q.image)))
+          subst (λ (a : ChoiceValue). IsPlaced p a) (sym q.is)
+          (placed_for q.from q.to (there_placed q.to q.there) (names_equal q.from q.to q.here q.there q.image))
 
       same_cells : (b : ChoiceValue) (q : IsCarried b) → b.cells ≡ q.to.cells
       same_cells b q = ap (λ (c : ChoiceValue). c.cells) q.is
@@ -275,7 +275,7 @@ module _ (p : PuzzleValue) (z : IsPuzzle p) (cs ds : List ChoiceValue) (k : IsPa
           let same = one_image c.0 c.0 b.0 e c.1 refl b.1 i b.2 c.2 in
           (c.0, c.1, c.2, subst (λ (f : ChoiceValue). IsIn (choice_with c.0.name f.cells) between) same b.3)
 
-      between_packs : IsPacking (told_apart p) (is_among between)
+      between_packs : IsApart p (is_among between)
       between_packs = record {
         placed = λ b t. all_placed b (in_between b (in_from_among between b t));
         once = λ a b s t one e.
@@ -324,7 +324,7 @@ module _ (p : PuzzleValue) (z : IsPuzzle p) (cs ds : List ChoiceValue) (k : IsPa
 
 -- ---- the laws
 
-forth : (p : PuzzleValue) (group : Group) (cs ds : List ChoiceValue) → IsPuzzle p → OthersDiffer p → IsPacking (told_apart p) (is_among cs) → IsPacking (told_apart p) (is_among ds)
+forth : (p : PuzzleValue) (group : Group) (cs ds : List ChoiceValue) → IsPuzzle p → OthersDiffer p → IsApart p (is_among cs) → IsApart p (is_among ds)
     → AreAlike group (packing_with p cs) (packing_with p ds) → ThenSwaps p (AreAlikeByName group) (packing_with p cs) (packing_with p ds)
 forth p group cs ds z differ k l a = record {
   between = between p z cs ds k l a.symmetry a.by a.limit a.carried;
@@ -339,7 +339,7 @@ forth p group cs ds z differ k l a = record {
   swaps = between_swaps p z cs ds k l a.symmetry a.by a.limit a.carried differ;
 }
 
-backwards : (p : PuzzleValue) (group : Group) (cs ds : List ChoiceValue) → IsPuzzle p → IsPacking (told_apart p) (is_among cs) → IsPacking (told_apart p) (is_among ds)
+backwards : (p : PuzzleValue) (group : Group) (cs ds : List ChoiceValue) → IsPuzzle p → IsApart p (is_among cs) → IsApart p (is_among ds)
     → ThenSwaps p (AreAlikeByName group) (packing_with p cs) (packing_with p ds) → AreAlike group (packing_with p cs) (packing_with p ds)
 backwards p group cs ds z k l t =
     from_swaps p z group cs ds l (record {

@@ -1,7 +1,6 @@
 -- Where it is within the limits, the problem that stands for a puzzle is one.
 use Rattle.std.proofs.Common.{◌||◌, ap, ◌≡◌, ℕ, zero, suc, ◌+◌, ◌-◌, ◌<◌, ◌≤◌, ◌^◌, ◌/◌, ◌%◌, List, [], ◌∷◌, ◌++◌, map, flat_map, length, Bool, true, false, cond, not, ◌&&◌, nat_lt, nat_le, ◌==◌, inl, inr, refl, sym, ap₂, subst, ◌∙◌, arith, eqb-true}
 use Rattle.std.specs.List.{list_all, range_with_len, position_or_len}
-use Rattle.std.proofs.lemmas.List.Folds.{list_any-append}
 use Rattle.std.proofs.lemmas.Bool.{and_parts, and_from, le-leb, lt-ltb, cases_Bool, not_from_false, both_ways, not-true, false_from_ne_true, true_from_ne_false}
 use Rattle.std.proofs.lemmas.Bool.Decides.{nat_tests}
 use Rattle.std.proofs.lemmas.List.{length-append, length-map}
@@ -14,10 +13,17 @@ use Rattle.poly_cells.proofs.CellTestLemmas.{in_from_has, has_from_in}
 use Rattle.poly_cells.specs.CellTests.{has_cell}
 use Rattle.shared_words.specs.Lists.{has, are_distinct}
 use Rattle.cover_problem.specs.Problem.{IsProblem, is_name, is_item, is_option, is_small, are_new}
-use Rattle.poly_cells.proofs.MemberLemmas.{all_pass, passes, in_from_flat_map, in_from_range}
+use Rattle.poly_cells.proofs.MemberLemmas.{all_pass, passes, in_flat_map, in_from_flat_map, in_from_range}
 use Rattle.poly_texts.specs.Words as words
 use Rattle.poly_place.specs.Turns.{from_right, from_left}
-use Rattle.poly_texts.specs.Puzzle.{PuzzleValue, IsPuzzle, names_of, has_name, is_needed, unneeded}
+use Rattle.poly_texts.specs.Puzzle.{PuzzleValue, IsPuzzle, names_of, has_name, is_needed, pieces_of, maybe_names, any_names, equal_names}
+use Rattle.poly_texts.specs.declared.usage.Usage.{Usage}
+use Rattle.poly_texts.specs.declared.usage.Usage.TheVariants as usages
+use Rattle.poly_texts.specs.Usages.{is_maybe, is_repeatable, are_so_many}
+use Rattle.poly_texts.specs.Kinds.{KindValue, given_if, kind_names, kind_maybe, kind_any, is_unneeded}
+use Rattle.poly_texts.proofs.KindLemmas.{given_own, told_by, names_flat}
+use Rattle.poly_texts.proofs.NameLemmas.{pieces_named, pieces_new, maybe_named, maybe_in_order}
+use Rattle.poly_texts.proofs.EqualLemmas.{equal_new, equal_needed}
 use Rattle.poly_place.specs.Packings.{ChoiceValue, is_any, must_fill, neighbours, pairs, first_cell, IsPlaced, every_choice, leavings, leaving_option, Thing, a_piece, a_cell, a_node, needed_things, other_things, things, index_among, thing_item, levels_for, tree_levels, nodes, nodes_by, leaf_of, given, things_of, option_of, thing_name, packing_problem}
 use Rattle.poly_place.proofs.DistinctLemmas.{in_from_name, name_from_in, IsDistinct, distinct_append, distinct_filter, distinct_map, distinct_rising, distinct_names}
 use Rattle.poly_place.proofs.PairLemmas.{all_of, distinct_left, distinct_right, distinct_apart, in_group, among_groups, pair_differs, pair_next}
@@ -96,16 +102,16 @@ pairs_among (g ∷ gs) d =
 
 module _ (p : PuzzleValue) (z : IsPuzzle p) where
   pub pairs_distinct : IsDistinct (pairs p)
-  pairs_distinct = pairs_among p.equal (distinct_names (all_of p.equal) z.equal_new)
+  pairs_distinct = pairs_among (equal_names p) (distinct_names (all_of (equal_names p)) (equal_new p z))
 
   -- pairs with one first piece are one
   pub one_pair : (q r : ℕ × ℕ) → IsIn q (pairs p) → IsIn r (pairs p) → q.0 ≡ r.0 → q ≡ r
   one_pair q r i j e = ap₂ (λ (m n : ℕ). (m, n)) e (pair_next p z (q.0) (q.1) (r.1) i (subst (λ (m : ℕ). IsIn (m, r.1) (pairs p)) (sym e) j))
 
-  pair_named : (q : ℕ × ℕ) → IsIn q (pairs p) → IsIn (q.0) (names_of p.pieces)
+  pair_named : (q : ℕ × ℕ) → IsIn q (pairs p) → IsIn (q.0) (names_of (pieces_of p))
   pair_named q i =
-      let known = passes (λ (n : ℕ). has_name (names_of p.pieces) n && is_needed p n) (all_of p.equal) z.equal_needed (q.0) (among_groups (q.0) (q.1) p.equal i).0 in
-      in_from_name (names_of p.pieces) (q.0) (and_parts (has_name (names_of p.pieces) (q.0)) (is_needed p (q.0)) known).0
+      let known = passes (λ (n : ℕ). has_name (names_of (pieces_of p)) n && is_needed p n) (all_of (equal_names p)) (equal_needed p z) (q.0) (among_groups (q.0) (q.1) (equal_names p) i).0 in
+      in_from_name (names_of (pieces_of p)) (q.0) (and_parts (has_name (names_of (pieces_of p)) (q.0)) (is_needed p (q.0)) known).0
 
   -- a node of the trees
   node_of : (t : Thing) → IsIn t (flat_map (nodes p) (pairs p)) → (q : ℕ × ℕ) × IsIn q (pairs p) × (h : ℕ) × (h < 4096) × (t ≡ a_node (q.0) h)
@@ -132,14 +138,14 @@ module _ (p : PuzzleValue) (z : IsPuzzle p) where
       same_tree : (t : Thing) (m n g h : ℕ) → t ≡ a_node m g → t ≡ a_node n h → m ≡ n
       same_tree t m n g h e f = cc
 
-  maybe_is_name : (n : ℕ) → IsIn n p.maybe_pieces → IsIn n (names_of p.pieces)
-  maybe_is_name n i = in_from_name (names_of p.pieces) n (passes (has_name (names_of p.pieces)) p.maybe_pieces z.maybe_named n i)
+  maybe_is_name : (n : ℕ) → IsIn n (maybe_names p) → IsIn n (names_of (pieces_of p))
+  maybe_is_name n i = in_from_name (names_of (pieces_of p)) n (passes (has_name (names_of (pieces_of p))) (maybe_names p) (maybe_named p z) n i)
 
   maybe_is_cell : (v : Coordinates) → IsIn v p.maybe_cells → IsIn v p.region
   maybe_is_cell v i = in_from_has p.region v (passes (has_cell p.region) p.maybe_cells z.maybe_within v i)
 
-  piece_good : (n : ℕ) → IsIn n (names_of p.pieces) → is_name (thing_name (a_piece n)) ≡ true
-  piece_good n i = piece_named n (passes words.is_name (names_of p.pieces) z.named n i)
+  piece_good : (n : ℕ) → IsIn n (names_of (pieces_of p)) → is_name (thing_name (a_piece n)) ≡ true
+  piece_good n i = piece_named n (passes words.is_name (names_of (pieces_of p)) (pieces_named p z) n i)
 
   cell_good : (v : Coordinates) → IsIn v p.region → is_name (thing_name (a_cell v)) ≡ true
   cell_good v i = cell_named v (z.limits v i)
@@ -155,9 +161,9 @@ module _ (p : PuzzleValue) (z : IsPuzzle p) where
                   subst (λ (s : Thing). is_name (thing_name s) ≡ true) (sym v.1) (cell_good v.0 (in_from_has p.region v.0 c.0))
             ]
         | inr b ↦
-            elim (in_append_cases t (map a_piece p.maybe_pieces) (map a_cell p.maybe_cells ++ flat_map (nodes p) (pairs p)) b) [
+            elim (in_append_cases t (map a_piece (maybe_names p)) (map a_cell p.maybe_cells ++ flat_map (nodes p) (pairs p)) b) [
               | inl c ↦
-                  let n = in_from_map a_piece t p.maybe_pieces c in
+                  let n = in_from_map a_piece t (maybe_names p) c in
                   subst (λ (s : Thing). is_name (thing_name s) ≡ true) (sym n.2) (piece_good n.0 (maybe_is_name n.0 n.1))
               | inr d ↦ elim (in_append_cases t (map a_cell p.maybe_cells) (flat_map (nodes p) (pairs p)) d) [
                 | inl e ↦
@@ -165,7 +171,7 @@ module _ (p : PuzzleValue) (z : IsPuzzle p) where
                     subst (λ (s : Thing). is_name (thing_name s) ≡ true) (sym v.2) (cell_good v.0 (maybe_is_cell v.0 v.1))
                 | inr e ↦
                     let q = node_of t e in
-                    subst (λ (s : Thing). is_name (thing_name s) ≡ true) (sym q.4) (node_named (q.0.0) q.2 (passes words.is_name (names_of p.pieces) z.named (q.0.0) (pair_named q.0 q.1)) q.3)
+                    subst (λ (s : Thing). is_name (thing_name s) ≡ true) (sym q.4) (node_named (q.0.0) q.2 (passes words.is_name (names_of (pieces_of p)) (pieces_named p z) (q.0.0) (pair_named q.0 q.1)) q.3)
               ]
             ]
       ]
@@ -175,9 +181,9 @@ module _ (p : PuzzleValue) (z : IsPuzzle p) where
       let t = in_from_map thing_name name (things p) i in
       subst (λ (n : List ℕ). is_name n ≡ true) (sym t.2) (good t.0 t.1))
 
-  maybe_names_distinct : IsDistinct p.maybe_pieces
+  maybe_names_distinct : IsDistinct (maybe_names p)
   maybe_names_distinct =
-      subst (λ (ns : List ℕ). IsDistinct ns) (sym z.maybe_in_order) (distinct_filter (has_name p.maybe_pieces) (names_of p.pieces) (distinct_names (names_of p.pieces) z.new))
+      subst (λ (ns : List ℕ). IsDistinct ns) (sym (maybe_in_order p z)) (distinct_filter (has_name (maybe_names p)) (names_of (pieces_of p)) (distinct_names (names_of (pieces_of p)) (pieces_new p z)))
 
   later_distinct : IsDistinct (map a_cell p.maybe_cells ++ flat_map (nodes p) (pairs p))
   later_distinct =
@@ -192,28 +198,28 @@ module _ (p : PuzzleValue) (z : IsPuzzle p) where
 
   other_distinct : IsDistinct (other_things p)
   other_distinct =
-      distinct_append (map a_piece p.maybe_pieces) (map a_cell p.maybe_cells ++ flat_map (nodes p) (pairs p)) (distinct_map a_piece p.maybe_pieces (λ a b e. cc) maybe_names_distinct)
+      distinct_append (map a_piece (maybe_names p)) (map a_cell p.maybe_cells ++ flat_map (nodes p) (pairs p)) (distinct_map a_piece (maybe_names p) (λ a b e. cc) maybe_names_distinct)
       later_distinct
       (λ t i j.
-      let name = in_from_map a_piece t p.maybe_pieces i in
+      let name = in_from_map a_piece t (maybe_names p) i in
       let m = name.2 in
       elim (in_append_cases t (map a_cell p.maybe_cells) (flat_map (nodes p) (pairs p)) j) [
         | inl a ↦ let v = in_from_map a_cell t p.maybe_cells a in let n = v.2 in cc
         | inr b ↦ let q = node_of t b in let n = q.4 in cc
       ])
 
-  not_maybe : (n : ℕ) → is_needed p n ≡ true → has_name p.maybe_pieces n ≡ false
-  not_maybe n h = not-true _ (and_parts (not (has_name p.maybe_pieces n)) (not (has_name p.any_pieces n)) h).0
+  not_maybe : (n : ℕ) → is_needed p n ≡ true → has_name (maybe_names p) n ≡ false
+  not_maybe n h = not-true _ (and_parts (not (has_name (maybe_names p) n)) (not (has_name (any_names p) n)) h).0
 
   apart : (t : Thing) → IsIn t (needed_things p) → IsIn t (other_things p) → ⊥
   apart t i j =
-      elim (in_append_cases t (map a_piece p.maybe_pieces) (map a_cell p.maybe_cells ++ flat_map (nodes p) (pairs p)) j) [
+      elim (in_append_cases t (map a_piece (maybe_names p)) (map a_cell p.maybe_cells ++ flat_map (nodes p) (pairs p)) j) [
         | inl a ↦
-            let n = in_from_map a_piece t p.maybe_pieces a in
+            let n = in_from_map a_piece t (maybe_names p) a in
             elim (needed_cases p t i) [
               | inl m ↦
                   let same : n.0 ≡ m.0 = let e = n.2 in let f = m.1 in cc in
-                  both_ways (has_name p.maybe_pieces n.0) (not_maybe n.0 (subst (λ (k : ℕ). is_needed p k ≡ true) (sym same) m.3)) (name_from_in p.maybe_pieces n.0 n.1)
+                  both_ways (has_name (maybe_names p) n.0) (not_maybe n.0 (subst (λ (k : ℕ). is_needed p k ≡ true) (sym same) m.3)) (name_from_in (maybe_names p) n.0 n.1)
               | inr v ↦ let e = n.2 in let f = v.1 in cc
             ]
         | inr b ↦ elim (in_append_cases t (map a_cell p.maybe_cells) (flat_map (nodes p) (pairs p)) b) [
@@ -247,36 +253,54 @@ module _ (p : PuzzleValue) (z : IsPuzzle p) where
   no_needed : length (needed_things p) ≡ 0 → (t : Thing) → IsIn t (needed_things p) → ⊥
   no_needed e t i = let at = (place_in nothing t (needed_things p) i).0 in omega (arith, e, at)
 
+  -- the piece of a symbol that names one
+  named_in : (k : KindValue) → IsIn k p.kinds → (n : ℕ) → IsIn n (kind_names k) → IsIn n (names_of (pieces_of p))
+  unfolding pieces_of
+  named_in k i n j = subst (λ (ns : List ℕ). IsIn n ns) (sym (names_flat p.kinds)) (in_flat_map kind_names n k p.kinds i j)
+
+  -- a piece of a kind that says no more of it is needed
+  needed_of : (k : KindValue) → IsIn k p.kinds → is_maybe k.usage ≡ false → is_repeatable k.usage ≡ false → (n : ℕ) → IsIn n k.symbols → is_needed p n ≡ true
+  unfolding maybe_names any_names
+  needed_of k there e f n i =
+      let told = told_by p.kinds z.new in
+      and_from _ _
+      (not_from_false _ (told kind_maybe (given_own (λ j. is_maybe j.usage)) k there n i ∙ ap (λ b. has_name (given_if b (kind_names k)) n) e))
+      (not_from_false _ (told kind_any (given_own (λ j. is_repeatable j.usage)) k there n i ∙ ap (λ b. has_name (given_if b (kind_names k)) n) f))
+
+  some_first : (ns : List ℕ) → 0 < length ns → (n : ℕ) × IsIn n ns
+  some_first [] h = absurd (omega (arith, h))
+  some_first (n ∷ ns) h = (n, inl refl)
+
+  -- a kind has a symbol, so of a kind none of whose pieces is needed no packing has to use one
+  unneeded_kind : (k : KindValue) → IsIn k p.kinds → ((n : ℕ) → IsIn n (kind_names k) → is_needed p n ≡ true → ⊥) → is_unneeded k ≡ true
+  unneeded_kind k there none = by_usage k.usage refl (z.kinds_are k there).many
+    where
+      by_usage : (u : Usage) → k.usage ≡ u → are_so_many u (length k.symbols) ≡ true → is_unneeded k ≡ true
+      by_usage usages.Once e h =
+          let n = some_first k.symbols (grind (arith, nat_tests)) in
+          absurd (none n.0 (rw e n.1) (needed_of k there (ap is_maybe e) (ap is_repeatable e) n.0 n.1))
+      by_usage usages.Maybe e h = ap (λ u. is_maybe u || (is_repeatable u || (k.spare == length k.symbols))) e
+      by_usage usages.Any e h = ap (λ u. is_maybe u || (is_repeatable u || (k.spare == length k.symbols))) e
+      by_usage usages.Copies e h =
+          let n = some_first k.symbols (grind (arith, nat_tests)) in
+          absurd (none n.0 (rw e n.1) (needed_of k there (ap is_maybe e) (ap is_repeatable e) n.0 n.1))
+
   some_needed : 0 < length (needed_things p)
   some_needed =
       elim (cases_Bool (nat_lt 0 (length (needed_things p)))) [
         | inl t ↦ is_lt (length (needed_things p)) t
         | inr f ↦
             let e = is_none (length (needed_things p)) f in
-            let names : list_all (has_name (unneeded p)) (names_of p.pieces) ≡ true =
-            all_pass (has_name (unneeded p)) (names_of p.pieces)
-            (λ n i. either_name n (false_from_ne_true _ (λ g. no_needed e (a_piece n) (needed_piece p n i g)))) in
+            let kinds : list_all is_unneeded p.kinds ≡ true =
+            all_pass is_unneeded p.kinds (λ k i. unneeded_kind k i (λ n j g. no_needed e (a_piece n) (needed_piece p n (named_in k i n j) g))) in
             let cells : list_all (has_cell p.maybe_cells) p.region ≡ true =
             all_pass (has_cell p.maybe_cells) p.region (λ v i. true_from_ne_false _ (λ g.
             no_needed e (a_cell v)
             (needed_cell p v (and_from (has_cell p.region v) (not (has_cell p.maybe_cells v)) (has_from_in p.region v i) (not_from_false (has_cell p.maybe_cells v) g))))) in
-            let all = and_from (list_all (has_name (unneeded p)) (names_of p.pieces)) (list_all (has_cell p.maybe_cells) p.region) names cells in
-            let required = z.required in
-            cc
+            let all = and_from (list_all is_unneeded p.kinds) (list_all (has_cell p.maybe_cells) p.region) kinds cells in
+            absurd (both_ways _ z.required all)
       ]
     where
-      -- a piece that isn't needed has one of the names
-      either_name : (n : ℕ) → is_needed p n ≡ false → has_name (unneeded p) n ≡ true
-      either_name n h =
-          list_any-append (λ m. m == n) p.maybe_pieces (p.any_pieces ++ p.spare)
-          ∙ ap (λ b. has_name p.maybe_pieces n || b) (list_any-append (λ m. m == n) p.any_pieces p.spare)
-          ∙ by_tests (has_name p.maybe_pieces n) (has_name p.any_pieces n) (has_name p.spare n) h
-        where
-          by_tests : (a b c : Bool) → (not a && not b) ≡ false → (a || (b || c)) ≡ true
-          by_tests true b c e = refl
-          by_tests false true c e = refl
-          by_tests false false c e = cc
-
       is_lt : (n : ℕ) → nat_lt 0 n ≡ true → 0 < n
       is_lt n h = grind (arith, nat_tests)
 
@@ -390,7 +414,7 @@ module _ (p : PuzzleValue) (z : IsPuzzle p) where
       let inside : (t : Thing) → IsIn t (map a_piece (parts.1)) → IsIn t (things p) = λ t i.
       let n = in_from_map a_piece t (parts.1) i in
       subst (λ (s : Thing). IsIn s (things p)) (sym n.2) (left_copy p z parts l n.0 n.1).thing in
-      let whole = subst IsDistinct l.parted.whole (distinct_group p.equal l.group (distinct_names (all_of p.equal) z.equal_new) l.there) in
+      let whole = subst IsDistinct l.parted.whole (distinct_group (equal_names p) l.group (distinct_names (all_of (equal_names p)) (equal_new p z)) l.there) in
       let apart = distinct_map a_piece (parts.1) (λ x y e. cc) (distinct_right (parts.0) (parts.1) whole) in
       let first = in_map (thing_item p) (a_piece l.parted.first) (map a_piece (parts.1)) (in_map a_piece l.parted.first (parts.1) (first_left l.group parts l.parted)) in
       and_from (nat_lt 0 (length (leaving_option p parts)) && are_distinct (leaving_option p parts)) (list_all (is_item (length (map thing_name (things p)))) (leaving_option p parts))

@@ -1,5 +1,5 @@
 -- The example of specs/Counts.antt, computed; a puzzle with one packing; and one with a spare copy, whose number of packings is a sum.
-use Rattle.std.proofs.Common.{◌≡◌, ℕ, Bool, true, cond, List, [], ◌∷◌, inl, inr, refl, sym, ap, ap₂, subst, ◌∙◌, arith}
+use Rattle.std.proofs.Common.{◌≡◌, ℕ, Bool, true, false, cond, List, [], ◌∷◌, inl, inr, refl, sym, ap, ap₂, subst, ◌∙◌, arith}
 use Rattle.std.specs.Cmp.{both_ways as same_tests}
 use Rattle.std.specs.List.Sorted.{IsStrictlySortedBy}
 use Rattle.std.proofs.lemmas.Bool.{and_parts}
@@ -10,7 +10,9 @@ use Rattle.poly_cells.proofs.SetLemmas.{same_members}
 use Rattle.poly_cells.proofs.CoordinateLemmas.{coordinates_total}
 use Rattle.poly_cells.proofs.CellTestLemmas.{in_from_has}
 use Rattle.poly_cells.proofs.GroupLemmas.{in_from_rotation}
-use Rattle.poly_texts.specs.Puzzle.{PuzzleValue, IsPuzzle, has_name}
+use Rattle.poly_texts.specs.declared.usage.Usage.TheVariants as usages
+use Rattle.poly_texts.specs.Kinds.{form_of, kind_with}
+use Rattle.poly_texts.specs.Puzzle.{PuzzleValue, IsPuzzle, puzzle_from, pieces_of, maybe_names, any_names, mirrored_names, equal_names, spare_names, has_name}
 use Rattle.poly_place.specs.Packings.{ChoiceValue, choice_with, IsPlaced, IsPacking}
 use Rattle.poly_place.specs.Chosen.{is_among}
 use Rattle.poly_place.specs.Ranges.{fixed_without}
@@ -18,23 +20,14 @@ use Rattle.poly_place.specs.Counts.{AreAllPackings, IsPackingCount, spare_ends}
 use Rattle.poly_place.proofs.CarryLemmas.{nothing, image_neutral}
 use Rattle.poly_place.proofs.ChosenLemmas.{in_from_among, among_from_in}
 use Rattle.poly_place.proofs.SumLemmas.{one_count, ranges_add_up}
-use Rattle.poly_place.proofs.PackingExamples.{one_cell, one_rises, none_rise, one_limits, equals, are_pieces, equal_shapes}
+use Rattle.poly_place.proofs.PackingExamples.{one_cell, one_rises, none_rise, one_limits, are_kinds}
 
 -- the pieces A and B are equal, and C and D; B and D are spare
 abbrev pub two_ranges : PuzzleValue
-two_ranges = record {
-  pieces = (65, one_cell) ∷ (66, one_cell) ∷ (67, one_cell) ∷ (68, one_cell) ∷ [];
-  maybe_pieces = [];
-  region = one_cell;
-  maybe_cells = [];
-  any_pieces = [];
-  mirrored = [];
-  equal = (65 ∷ 66 ∷ []) ∷ (67 ∷ 68 ∷ []) ∷ [];
-  symbols = [];
-  spare = 66 ∷ 68 ∷ [];
-}
+two_ranges = puzzle_from (kind_with (form_of usages.Copies false 1) (65 ∷ 66 ∷ []) one_cell ∷ kind_with (form_of usages.Copies false 1) (67 ∷ 68 ∷ []) one_cell ∷ []) one_cell []
 
 pub four_ways : spare_ends two_ranges ≡ [] ∷ (68 ∷ []) ∷ (66 ∷ []) ∷ (66 ∷ 68 ∷ []) ∷ []
+unfolding equal_names spare_names
 four_ways = refl
 
 -- a list that has a packing twice is no list of all packings
@@ -45,44 +38,22 @@ not_twice p cs a = a.once.0 cs (inl refl) (λ c. refl)
 
 -- the equal pieces A and B of one cell each, of which B is spare, in a region of one cell
 abbrev ranged : PuzzleValue
-ranged = record {
-  pieces = equals.pieces;
-  maybe_pieces = [];
-  region = one_cell;
-  maybe_cells = [];
-  any_pieces = [];
-  mirrored = [];
-  equal = equals.equal;
-  symbols = [];
-  spare = 66 ∷ [];
-}
+ranged = puzzle_from (kind_with (form_of usages.Copies false 1) (65 ∷ 66 ∷ []) one_cell ∷ []) one_cell []
 
 is_ranged : IsPuzzle ranged
+unfolding pieces_of
 is_ranged = record {
-  named = refl;
+  kinds_are = are_kinds 1 (omega arith);
   new = refl;
   some_piece = omega arith;
   few_pieces = omega arith;
-  shaped = are_pieces;
   some_cell = omega arith;
   few = omega arith;
   rises = one_rises;
   limits = one_limits;
-  maybe_named = refl;
-  maybe_in_order = refl;
   maybe_rises = none_rise;
   maybe_within = refl;
   required = refl;
-  any_named = refl;
-  any_not_maybe = refl;
-  equal_new = refl;
-  equal_needed = refl;
-  symbols_new = refl;
-  symbols_named = refl;
-  symbols_show = refl;
-  spare_equal = refl;
-  spare_last = refl;
-  equal_shapes = equal_shapes;
 }
 
 -- A alone
@@ -107,7 +78,7 @@ abbrev first : ChoiceValue
 first = choice_with 65 one_cell
 
 first_placed : IsPlaced single first
-unfolding is_rotation matrix
+unfolding pieces_of maybe_names any_names mirrored_names equal_names spare_names is_rotation matrix
 first_placed = record {
   piece = one_cell;
   named = inl refl;
@@ -120,6 +91,7 @@ is_first : (c : ChoiceValue) → is_among (first ∷ []) c ≡ true → c ≡ fi
 is_first c t = elim (in_from_among (first ∷ []) c t) [ inl e ↦ e | inr none ↦ absurd none ]
 
 first_packs : IsPacking single (is_among (first ∷ []))
+unfolding pieces_of equal_names
 first_packs = record {
   placed = λ c t. subst (λ (d : ChoiceValue). IsPlaced single d) (sym (is_first c t)) first_placed;
   once = λ c d s t one e. is_first c s ∙ sym (is_first d t);
@@ -132,6 +104,7 @@ first_packs = record {
 
 -- each choice that may be made for A alone
 only_first : (c : ChoiceValue) → IsPlaced single c → c ≡ first
+unfolding pieces_of
 only_first c h =
     elim h.named [
       | inl e ↦
@@ -141,6 +114,7 @@ only_first c h =
     ]
 
 one_packing : IsPackingCount single 1
+unfolding pieces_of maybe_names any_names spare_names
 one_packing = (
   (first ∷ []) ∷ [],
   record {
@@ -167,6 +141,7 @@ not_two two = let e = one_count single 1 2 one_packing two in absurd (omega (ari
 
 -- where A and B both have to be used they meet
 none_packs : (chosen : ChoiceValue → Bool) → IsPacking double chosen → ⊥
+unfolding pieces_of maybe_names any_names spare_names
 none_packs chosen k =
     let c = k.used 65 (inl refl) refl refl in
     let d = k.used 66 (inr (inl refl)) refl refl in
@@ -195,6 +170,7 @@ without gone = cond (has_name gone 66) 1 0
 
 -- with both pieces there is no packing, and without B there is one: together one
 sum_is_one : IsPackingCount ranged 1
+unfolding equal_names spare_names
 sum_is_one = (ranges_add_up ranged without is_ranged counted 1).1 refl
   where
     counted : (gone : List ℕ) → IsIn gone (spare_ends ranged) → IsPackingCount (fixed_without gone ranged) (without gone)

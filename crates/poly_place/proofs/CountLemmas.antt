@@ -11,10 +11,11 @@ use Rattle.poly_cells.proofs.CoordinateLemmas.{coordinates_total}
 use Rattle.poly_cells.proofs.SetLemmas.{in_at, same_members}
 use Rattle.poly_cells.proofs.CellTestLemmas.{in_from_has, has_from_in}
 use Rattle.poly_cells.specs.CellTests.{has_cell}
-use Rattle.poly_texts.specs.Puzzle.{PuzzleValue, IsPuzzle, names_of, has_name, is_needed}
+use Rattle.poly_texts.specs.Puzzle.{PuzzleValue, IsPuzzle, names_of, has_name, is_needed, pieces_of, maybe_names}
 use Rattle.poly_place.specs.Packings.{must_fill, needed_things, other_things, things, nodes, pairs, tree_levels, a_piece, a_cell, a_node}
 use Rattle.poly_place.specs.Compiled.{needed_names, filled_cells, before_nodes}
 use Rattle.poly_cells.proofs.MemberLemmas.{passes, in_from_filter, in_filter}
+use Rattle.poly_texts.proofs.NameLemmas.{maybe_in_order}
 use Rattle.std.proofs.lemmas.List.Sums.{length-filter, count_by-le-length}
 use Rattle.std.proofs.lemmas.List.Kept.{IsStrictlySortedBy-filter}
 
@@ -62,11 +63,11 @@ filter_short test xs = rw length-filter (count_by-le-length test xs)
 pub record AreFew (p : PuzzleValue) : Type 0 where
   pub pieces : length (needed_names p) ≤ 62
   pub cells : length (filled_cells p) ≤ 4096
-  pub maybe_pieces : length p.maybe_pieces ≤ 62
+  pub maybe_pieces : length (maybe_names p) ≤ 62
   pub maybe_cells : length p.maybe_cells ≤ 4096
 
-names_few : (p : PuzzleValue) → IsPuzzle p → length (names_of p.pieces) ≤ 62
-names_few p z = let few = z.few_pieces in subst (λ (n : ℕ). n ≤ 62) (sym (length-map p.pieces (λ (q : ℕ × List Coordinates). q.0))) few
+names_few : (p : PuzzleValue) → IsPuzzle p → length (names_of (pieces_of p)) ≤ 62
+names_few p z = let few = z.few_pieces in subst (λ (n : ℕ). n ≤ 62) (sym (length-map (pieces_of p) (λ (q : ℕ × List Coordinates). q.0))) few
 
 maybe_is : (p : PuzzleValue) → IsPuzzle p → p.maybe_cells ≡ filter (has_cell p.maybe_cells) p.region
 maybe_is p z =
@@ -77,11 +78,11 @@ maybe_is p z =
 pub are_few : (p : PuzzleValue) → IsPuzzle p → AreFew p
 are_few p z =
     let names = names_few p z in
-    let a = filter_short (is_needed p) (names_of p.pieces) in
+    let a = filter_short (is_needed p) (names_of (pieces_of p)) in
     let b = filter_short (must_fill p) p.region in
-    let c = filter_short (has_name p.maybe_pieces) (names_of p.pieces) in
+    let c = filter_short (has_name (maybe_names p)) (names_of (pieces_of p)) in
     let d = filter_short (has_cell p.maybe_cells) p.region in
-    let e : length p.maybe_pieces ≡ length (filter (has_name p.maybe_pieces) (names_of p.pieces)) = ap length z.maybe_in_order in
+    let e : length (maybe_names p) ≡ length (filter (has_name (maybe_names p)) (names_of (pieces_of p))) = ap length (maybe_in_order p z) in
     let f : length p.maybe_cells ≡ length (filter (has_cell p.maybe_cells) p.region) = ap length (maybe_is p z) in
     record { pieces = omega (arith, a, names); cells = omega (arith, b); maybe_pieces = omega (arith, c, e, names); maybe_cells = omega (arith, d, f) }
 
@@ -96,9 +97,9 @@ pub things_count : (p : PuzzleValue) → length (things p) ≡ before_nodes p + 
 things_count p =
     let trees = flat_map (nodes p) (pairs p) in
     let all = length-append (needed_things p) (other_things p) in
-    let later = length-append (map a_piece p.maybe_pieces) (map a_cell p.maybe_cells ++ trees) in
+    let later = length-append (map a_piece (maybe_names p)) (map a_cell p.maybe_cells ++ trees) in
     let last = length-append (map a_cell p.maybe_cells) trees in
-    let first = length-map p.maybe_pieces a_piece in
+    let first = length-map (maybe_names p) a_piece in
     let second = length-map p.maybe_cells a_cell in
     let third = trees_long (pairs p) in
     omega (arith, all, later, last, first, second, third)

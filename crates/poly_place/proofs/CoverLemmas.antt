@@ -4,7 +4,7 @@ use Rattle.std.proofs.lemmas.Bool.{both_ways}
 use Rattle.poly_cells.specs.Coordinates.{Coordinates, coordinates_cmp}
 use Rattle.poly_cells.specs.Sets.{IsIn}
 use Rattle.poly_cells.proofs.SetLemmas.{in_append_left, in_append_right, cases_order, turned_back}
-use Rattle.poly_texts.specs.Puzzle.{PuzzleValue, IsPuzzle, names_of, is_needed, is_spare}
+use Rattle.poly_texts.specs.Puzzle.{PuzzleValue, IsPuzzle, names_of, is_needed, is_spare, pieces_of, equal_names}
 use Rattle.shared_words.specs.Lists.{has}
 use Rattle.cover_problem.specs.Problem.{option_at}
 use Rattle.cover_problem.specs.ExactCover.{IsExactCover}
@@ -153,7 +153,7 @@ module _ (p : PuzzleValue) (z : IsPuzzle p) (h : HasShapes p) (set : ℕ → Boo
         ]
       ]
 
-  used_by : IsExactCover (packing_problem p) set → (name : ℕ) → IsIn name (names_of p.pieces) → is_needed p name ≡ true → is_spare p name ≡ false → IsUsed chosen name
+  used_by : IsExactCover (packing_problem p) set → (name : ℕ) → IsIn name (names_of (pieces_of p)) → is_needed p name ≡ true → is_spare p name ≡ false → IsUsed chosen name
   used_by e name i n sure =
       elim (met e (a_piece name) (needed_piece p name i n)) [
         | inl c ↦ (c.0, c.1, (in_piece p c.0 name c.2).1)
@@ -174,7 +174,7 @@ module _ (p : PuzzleValue) (z : IsPuzzle p) (h : HasShapes p) (set : ℕ → Boo
   -- a copy that is used is not left out; so neither is the one before it, as that would leave out both
   used_in_turn : IsExactCover (packing_problem p) set → (m n : ℕ) → IsIn (m, n) (pairs p) → IsUsed chosen n → IsUsed chosen m
   used_in_turn e m n i u =
-      let g = in_from_flat_map neighbours (m, n) p.equal i in
+      let g = in_from_flat_map neighbours (m, n) (equal_names p) i in
       let both = in_group m n g.0 g.2 in
       elim (met_copy e m (equal_copy p z g.0 m g.1 both.0)) [
         | inl w ↦ w

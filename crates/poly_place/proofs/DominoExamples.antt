@@ -1,11 +1,13 @@
 -- Two dominoes in the box 2 2 1, computed: the problem, its four packings, and their classes. Crates above cite it for what they write.
-use Rattle.std.proofs.Common.{◌≡◌, ℕ, List, [], ◌∷◌, ◌++◌, map, codes, refl}
+use Rattle.std.proofs.Common.{◌≡◌, ℕ, List, [], ◌∷◌, ◌++◌, map, codes, refl, false}
 use Rattle.cover_problem.specs.Problem.{ProblemValue}
 use Rattle.poly_cells.specs.Coordinates.{Coordinates, coordinates}
 use Rattle.poly_cells.specs.Symmetries.{matrix, is_rotation, rotations}
 use Rattle.poly_cells.specs.Sets.{in_order}
 use Rattle.poly_cells.specs.Shapes.{normal, turned}
-use Rattle.poly_texts.specs.Puzzle.{PuzzleValue}
+use Rattle.poly_texts.specs.declared.usage.Usage.TheVariants as usages
+use Rattle.poly_texts.specs.Kinds.{form_of, kind_with}
+use Rattle.poly_texts.specs.Puzzle.{PuzzleValue, puzzle_from, pieces_of, maybe_names, any_names, mirrored_names, equal_names, copy_symbols, spare_names}
 use Rattle.poly_place.specs.declared.alike.Group.TheVariants.{Rotations, Symmetries}
 use Rattle.poly_place.specs.Placements.{orientations, placements}
 use Rattle.poly_place.specs.Packings.{every_choice, leavings, thing_item, packing_problem}
@@ -18,17 +20,9 @@ domino = coordinates 0 0 0 ∷ coordinates 1 0 0 ∷ []
 
 -- the dominoes A and B, and the box
 abbrev pub dominoes : PuzzleValue
-dominoes = record {
-  pieces = (65, domino) ∷ (66, domino) ∷ [];
-  maybe_pieces = [];
-  region = coordinates 0 0 0 ∷ coordinates 0 1 0 ∷ coordinates 1 0 0 ∷ coordinates 1 1 0 ∷ [];
-  maybe_cells = [];
-  any_pieces = [];
-  mirrored = [];
-  equal = [];
-  symbols = [];
-  spare = [];
-}
+dominoes =
+    puzzle_from (kind_with (form_of usages.Once false 0) (65 ∷ []) domino ∷ kind_with (form_of usages.Once false 0) (66 ∷ []) domino ∷ [])
+    (coordinates 0 0 0 ∷ coordinates 0 1 0 ∷ coordinates 1 0 0 ∷ coordinates 1 1 0 ∷ []) []
 
 -- the items are A, B and the cells 000, 010, 100 and 110; each piece has four options
 abbrev pub boxed : ProblemValue
@@ -41,24 +35,24 @@ boxed = record {
 }
 
 pub boxed_dominoes : packing_problem dominoes ≡ boxed
-unfolding packing_problem every_choice leavings thing_item placements orientations in_order turned normal rotations is_rotation matrix
+unfolding pieces_of maybe_names any_names mirrored_names equal_names copy_symbols spare_names packing_problem every_choice leavings thing_item placements orientations in_order turned normal rotations is_rotation matrix
 boxed_dominoes = refl
 
 -- A stands on the left, above, below, and on the right
 pub on_the_left : layers (packing_value dominoes (1 ∷ 8 ∷ [])) ≡ codes "AB" ++ 10 ∷ codes "AB" ++ 10 ∷ []
-unfolding layers every_choice placements orientations in_order turned normal rotations is_rotation matrix
+unfolding pieces_of maybe_names any_names mirrored_names equal_names copy_symbols spare_names layers every_choice placements orientations in_order turned normal rotations is_rotation matrix
 on_the_left = refl
 
 pub above : layers (packing_value dominoes (2 ∷ 7 ∷ [])) ≡ codes "AA" ++ 10 ∷ codes "BB" ++ 10 ∷ []
-unfolding layers every_choice placements orientations in_order turned normal rotations is_rotation matrix
+unfolding pieces_of maybe_names any_names mirrored_names equal_names copy_symbols spare_names layers every_choice placements orientations in_order turned normal rotations is_rotation matrix
 above = refl
 
 pub below : layers (packing_value dominoes (3 ∷ 6 ∷ [])) ≡ codes "BB" ++ 10 ∷ codes "AA" ++ 10 ∷ []
-unfolding layers every_choice placements orientations in_order turned normal rotations is_rotation matrix
+unfolding pieces_of maybe_names any_names mirrored_names equal_names copy_symbols spare_names layers every_choice placements orientations in_order turned normal rotations is_rotation matrix
 below = refl
 
 pub on_the_right : layers (packing_value dominoes (4 ∷ 5 ∷ [])) ≡ codes "BA" ++ 10 ∷ codes "BA" ++ 10 ∷ []
-unfolding layers every_choice placements orientations in_order turned normal rotations is_rotation matrix
+unfolding pieces_of maybe_names any_names mirrored_names equal_names copy_symbols spare_names layers every_choice placements orientations in_order turned normal rotations is_rotation matrix
 on_the_right = refl
 
 -- the paths of the four packings
@@ -67,9 +61,9 @@ paths = (1 ∷ 8 ∷ []) ∷ (2 ∷ 7 ∷ []) ∷ (3 ∷ 6 ∷ []) ∷ (4 ∷ 5 
 
 -- turns carry each of them onto the first one
 pub one_by_rotations : class_count (are_alike Rotations) (map (packing_value dominoes) paths) ≡ 1
-unfolding class_count are_alike carries image_in every_choice placements orientations in_order turned normal rotations is_rotation matrix
+unfolding pieces_of maybe_names any_names mirrored_names equal_names copy_symbols spare_names class_count are_alike carries image_in every_choice placements orientations in_order turned normal rotations is_rotation matrix
 one_by_rotations = refl
 
 pub one_by_symmetries : class_count (are_alike Symmetries) (map (packing_value dominoes) paths) ≡ 1
-unfolding class_count are_alike carries image_in every_choice placements orientations in_order turned normal rotations is_rotation matrix
+unfolding pieces_of maybe_names any_names mirrored_names equal_names copy_symbols spare_names class_count are_alike carries image_in every_choice placements orientations in_order turned normal rotations is_rotation matrix
 one_by_symmetries = refl

@@ -6,7 +6,8 @@ use Rattle.std.proofs.lemmas.Bool.{cases_Bool, cond-true, cond-false, both_ways,
 use Rattle.poly_cells.specs.Sets.{IsIn}
 use Rattle.poly_cells.proofs.SetLemmas.{in_append_left, in_append_right, in_append_cases, in_map, in_from_map}
 use Rattle.poly_cells.proofs.MemberLemmas.{in_flat_map, in_from_flat_map, all_pass, passes}
-use Rattle.poly_texts.specs.Puzzle.{PuzzleValue, IsPuzzle, has_name, is_spare}
+use Rattle.poly_texts.specs.Puzzle.{PuzzleValue, IsPuzzle, has_name, is_spare, equal_names, spare_names}
+use Rattle.poly_texts.proofs.EqualLemmas.{equal_new, spare_equal}
 use Rattle.poly_place.specs.Packings.{neighbours}
 use Rattle.poly_place.specs.Compiled.{left_from}
 use Rattle.poly_place.specs.Ranges.{AreSpareEnds, is_kept}
@@ -191,12 +192,12 @@ module _ (p : PuzzleValue) (gone : List ℕ) (e : AreSpareEnds p gone) where
     pub forth : (n : ℕ) → IsIn n found → has_name gone n ≡ true
     pub back : (n : ℕ) → has_name gone n ≡ true → IsIn n (all_of groups) → IsIn n found
 
-  find : (groups : List (List ℕ)) → ((g : List ℕ) → IsIn g groups → IsIn g p.equal) → (found : List ℕ) × IsFound groups found
+  find : (groups : List (List ℕ)) → ((g : List ℕ) → IsIn g groups → IsIn g (equal_names p)) → (found : List ℕ) × IsFound groups found
   find [] h = ([], record { there = inl refl; forth = λ n i. absurd i; back = λ n t i. absurd i })
   find (group ∷ groups) h =
       let kept_before : (m n : ℕ) → IsIn (m, n) (neighbours group) → is_kept gone n ≡ true → is_kept gone m ≡ true =
       λ m n i t.
-      not_from_false _ (false_from_ne_true _ (λ g. both_ways (has_name gone n) (not-true _ t) (e.ends m n (in_flat_map neighbours (m, n) group p.equal (h group (inl refl)) i) g))) in
+      not_from_false _ (false_from_ne_true _ (λ g. both_ways (has_name gone n) (not-true _ t) (e.ends m n (in_flat_map neighbours (m, n) group (equal_names p) (h group (inl refl)) i) g))) in
       let split = split_by (is_kept gone) group kept_before in
       let left : (n : ℕ) → IsIn n split.no → has_name gone n ≡ true = λ n i. true_from_ne_false _ (λ f. both_ways (is_kept gone n) (split.fail n i) (not_from_false _ f)) in
       let rest = find groups (λ g i. h g (inr i)) in
@@ -258,21 +259,21 @@ module _ (p : PuzzleValue) where
 
 pub all_ends : (p : PuzzleValue) → IsPuzzle p → AreAllEnds p (spare_ends p)
 all_ends p z =
-    let d = distinct_names (all_of p.equal) z.equal_new in
+    let d = distinct_names (all_of (equal_names p)) (equal_new p z) in
     record {
       sound = λ gone i.
-          let ends = are_ends p p.equal gone d i in
+          let ends = are_ends p (equal_names p) gone d i in
           record {
             spare = λ n t. ends.spare n (in_from_name gone n t);
             ends = λ m n j t. name_from_in gone n (ends.next m n j (in_from_name gone m t));
           };
       complete = λ gone e.
-          let found = find p gone e p.equal (λ g i. i) in
-          let among : (n : ℕ) → has_name gone n ≡ true → IsIn n (all_of p.equal) =
-          λ n t. in_from_name (all_of p.equal) n (passes (has_name (all_of p.equal)) p.spare z.spare_equal n (in_from_name p.spare n (e.spare n t))) in (
+          let found = find p gone e (equal_names p) (λ g i. i) in
+          let among : (n : ℕ) → has_name gone n ≡ true → IsIn n (all_of (equal_names p)) =
+          λ n t. in_from_name (all_of (equal_names p)) n (passes (has_name (all_of (equal_names p))) (spare_names p) (spare_equal p z) n (in_from_name (spare_names p) n (e.spare n t))) in (
             found.0,
             found.1.there,
             names_same found.0 gone (λ n i. in_from_name gone n (found.1.forth n i)) (λ n i. let t = name_from_in gone n i in found.1.back n t (among n t)),
           );
-      once = all_unlike p p.equal d;
+      once = all_unlike p (equal_names p) d;
     }

@@ -8,7 +8,7 @@ use Rattle.poly_cells.specs.Coordinates.{Coordinates, coordinates_cmp}
 use Rattle.poly_cells.specs.Sets.{IsIn}
 use Rattle.poly_cells.proofs.SetLemmas.{rising_none, rising_cons, rising_head}
 use Rattle.poly_cells.proofs.MemberLemmas.{in_flat_map, in_from_flat_map}
-use Rattle.poly_texts.specs.Puzzle.{PuzzleValue, has_name}
+use Rattle.poly_texts.specs.Puzzle.{PuzzleValue, has_name, equal_names}
 use Rattle.poly_place.specs.Packings.{neighbours, first_cell}
 use Rattle.poly_cells.proofs.CoordinateLemmas.{coordinates_total}
 use Rattle.poly_place.proofs.DistinctLemmas.{IsDistinct, in_from_name, name_from_in}
@@ -63,20 +63,20 @@ distinct_group (h ∷ gs) g d i =
 
 -- a name is in a group or in none
 pub is_grouped : PuzzleValue → ℕ → Bool
-is_grouped p n = has_name (all_of p.equal) n
+is_grouped p n = has_name (all_of (equal_names p)) n
 
 -- a group of the puzzle with a name in it
 pub record InGroup (p : PuzzleValue) (n : ℕ) : Type 0 where
   pub group : List ℕ
-  pub there : IsIn group p.equal
+  pub there : IsIn group (equal_names p)
   pub member : IsIn n group
 
 pub grouped_in : (p : PuzzleValue) (n : ℕ) → is_grouped p n ≡ true → InGroup p n
 unfolding is_grouped
 grouped_in p n h =
-    let g = in_from_flat_map (λ (group : List ℕ). group) n p.equal (in_from_name (all_of p.equal) n h) in
+    let g = in_from_flat_map (λ (group : List ℕ). group) n (equal_names p) (in_from_name (all_of (equal_names p)) n h) in
     record { group = g.0; there = g.1; member = g.2 }
 
-pub in_grouped : (p : PuzzleValue) (n : ℕ) (g : List ℕ) → IsIn g p.equal → IsIn n g → is_grouped p n ≡ true
+pub in_grouped : (p : PuzzleValue) (n : ℕ) (g : List ℕ) → IsIn g (equal_names p) → IsIn n g → is_grouped p n ≡ true
 unfolding is_grouped
-in_grouped p n g i j = name_from_in (all_of p.equal) n (in_flat_map (λ (group : List ℕ). group) n g p.equal i j)
+in_grouped p n g i j = name_from_in (all_of (equal_names p)) n (in_flat_map (λ (group : List ℕ). group) n g (equal_names p) i j)

@@ -9,7 +9,9 @@ use Rattle.poly_cells.specs.Sets.{IsIn}
 use Rattle.poly_cells.proofs.CoordinateLemmas.{coordinates_total}
 use Rattle.poly_cells.proofs.MemberLemmas.{in_from_flat_map}
 use Rattle.poly_cells.proofs.SetLemmas.{in_append_cases, not_itself}
-use Rattle.poly_texts.specs.Puzzle.{PuzzleValue, IsPuzzle, names_of, is_spare}
+use Rattle.poly_texts.specs.Puzzle.{PuzzleValue, IsPuzzle, names_of, is_spare, pieces_of, equal_names}
+use Rattle.poly_texts.proofs.NameLemmas.{pieces_new}
+use Rattle.poly_texts.proofs.EqualLemmas.{equal_shapes}
 use Rattle.poly_place.specs.Packings.{ChoiceValue, neighbours, pairs, first_cell, IsUsed, IsPacking, place_of, followers_in, followers, cells_beside, leaves_room, PackingsHaveRoom}
 use Rattle.poly_place.proofs.DistinctLemmas.{IsDistinct, distinct_append, distinct_rising, distinct_names}
 use Rattle.poly_place.proofs.PairLemmas.{in_group, among_groups, equal_single, equal_named}
@@ -35,7 +37,7 @@ module _ (p : PuzzleValue) (z : IsPuzzle p) (chosen : ChoiceValue → Bool) (k :
   -- the second of two equal pieces is used where it isn't spare
   second_used : (pair : ℕ × ℕ) → IsIn pair (pairs p) → is_spare p (pair.1) ≡ false → IsUsed chosen (pair.1)
   second_used pair i s =
-      let n = (among_groups (pair.0) (pair.1) p.equal i).1 in
+      let n = (among_groups (pair.0) (pair.1) (equal_names p) i).1 in
       k.used (pair.1) (equal_named p z (pair.1) n) (equal_single p z (pair.1) n).0 s
 
   followed : (pair : ℕ × ℕ) (ps : List (ℕ × ℕ)) (n : ℕ) → (pair.0 == n) ≡ true → followers_in (pair ∷ ps) n ≡ pair.1 ∷ followers_in ps (pair.1)
@@ -75,10 +77,10 @@ module _ (p : PuzzleValue) (z : IsPuzzle p) (chosen : ChoiceValue → Bool) (k :
   same_size c d a b i =
       let pc = k.placed c a in
       let pd = k.placed d b in
-      let group = in_from_flat_map neighbours (c.name, d.name) p.equal i in
+      let group = in_from_flat_map neighbours (c.name, d.name) (equal_names p) i in
       let both = in_group c.name d.name group.0 group.2 in
-      let one = z.equal_shapes group.0 c.name d.name group.1 both.0 both.1 in
-      let same = one_piece p.pieces (distinct_names (names_of p.pieces) z.new) (d.name, pd.piece) (d.name, pc.piece) pd.named ((one.0 pc.piece).0 pc.named) refl in
+      let one = equal_shapes p z group.0 c.name d.name group.1 both.0 both.1 in
+      let same = one_piece (pieces_of p) (distinct_names (names_of (pieces_of p)) (pieces_new p z)) (d.name, pd.piece) (d.name, pc.piece) pd.named ((one.0 pc.piece).0 pc.named) refl in
       placed_size p shapes d pd ∙ ap (λ (q : ℕ × List Coordinates). length (q.1)) same ∙ sym (placed_size p shapes c pc)
 
   -- cells of chosen pieces whose least cells come after that of a choice: as many as n pieces of its size have

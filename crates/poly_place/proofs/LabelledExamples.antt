@@ -6,6 +6,7 @@ use Rattle.poly_cells.specs.Symmetries.{matrix, is_rotation, sent_by}
 use Rattle.poly_cells.specs.Sets.{IsIn, in_order}
 use Rattle.poly_cells.specs.Shapes.{normal, turned}
 use Rattle.poly_cells.specs.Images.{IsImage}
+use Rattle.poly_texts.specs.Puzzle.{pieces_of, equal_names, copy_symbols}
 use Rattle.poly_place.specs.declared.alike.Group.TheVariants.{Rotations}
 use Rattle.poly_place.specs.Packings.{ChoiceValue, choice_with, IsPacking}
 use Rattle.poly_place.specs.Chosen.{is_among}
@@ -29,6 +30,7 @@ swapped = choice_with 65 next_cell ∷ choice_with 66 one_cell ∷ []
 
 -- equal pieces are in order in a packing of the puzzle
 not_in_order : IsPacking equals (is_among swapped) → ⊥
+unfolding equal_names
 not_in_order k =
     let less = k.ordered (choice_with 65 next_cell) (choice_with 66 one_cell) (among_from_in swapped (choice_with 65 next_cell) (inl refl)) (among_from_in swapped (choice_with 66 one_cell) (inr (inl refl))) (inl refl) in
     cc
@@ -101,20 +103,22 @@ by_half_a_turn = record {
 
 -- so both are of one class
 pub one_class : class_count (are_alike Rotations) (map (packing_with equals) (in_turn ∷ swapped ∷ [])) ≡ 1
-unfolding class_count are_alike carries image_in matrix is_rotation turned normal in_order
+unfolding copy_symbols class_count are_alike carries image_in matrix is_rotation turned normal in_order
 one_class = refl
 
 -- all pieces of the puzzle are equal, so no others are one shape
 others_differ : OthersDiffer equals
+unfolding pieces_of equal_names
 others_differ q r n d i j low image = inr (65 ∷ 66 ∷ [], inl refl, named q i, named r j)
   where
-    named : (t : ℕ × List Coordinates) → IsIn t equals.pieces → IsIn (t.0) (65 ∷ 66 ∷ [])
+    named : (t : ℕ × List Coordinates) → IsIn t (pieces_of equals) → IsIn (t.0) (65 ∷ 66 ∷ [])
     named t (inl e) = inl (ap (λ (u : ℕ × List Coordinates). u.0) e)
     named t (inr (inl e)) = inr (inl (ap (λ (u : ℕ × List Coordinates). u.0) e))
     named t (inr (inr none)) = absurd none
 
 -- the pieces A and B of one cell each, where they aren't equal, don't differ
 alike_pieces : OthersDiffer pair → ⊥
+unfolding pieces_of equal_names
 alike_pieces differ =
     elim (differ (65, one_cell) (66, one_cell) 0 nothing (inl refl) (inr (inl refl)) (omega arith) (image_neutral one_cell)) [
       | inl same ↦ absurd (omega (arith, same))

@@ -6,12 +6,12 @@ use Rattle.poly_cells.specs.Shapes.{IsShape}
 use Rattle.poly_cells.proofs.SetLemmas.{in_map, in_from_map}
 use Rattle.poly_texts.specs.Puzzle.{PuzzleValue, IsPuzzle}
 use Rattle.poly_place.specs.declared.alike.Group.{Group}
-use Rattle.poly_place.specs.Packings.{ChoiceValue, IsPacking}
+use Rattle.poly_place.specs.Packings.{ChoiceValue, IsPackingBy}
 use Rattle.poly_place.specs.Chosen.{PackingValue, is_among}
-use Rattle.poly_place.specs.Swaps.{told_apart, IsSwap}
+use Rattle.poly_place.specs.Swaps.{IsApart, IsSwap}
 use Rattle.poly_place.specs.Classes.{AreAlike, IsLikeOne, IsClassCount}
 use Rattle.poly_place.specs.ClassCount.{are_alike, class_count}
-use Rattle.poly_place.specs.Counts.{AreAllPackings}
+use Rattle.poly_place.specs.Counts.{AreAll, AreAllPackings}
 use Rattle.poly_place.specs.Labelled.{packing_with, ThenSwaps, AlikeThenSwaps, ClassesAreLabelled}
 use Rattle.poly_place.proofs.ChosenLemmas.{in_from_among, among_from_in}
 use Rattle.poly_place.proofs.PlacedLemmas.{has_shapes}
@@ -23,7 +23,7 @@ use Rattle.poly_place.proofs.SwapLemmas.{count_swaps_once}
 
 -- ---- lists of choices as tests
 
-pub lists_apart : (p : PuzzleValue) (cs : List ChoiceValue) → IsPacking p (is_among cs) → AreApart cs
+pub lists_apart : (p : PuzzleValue) {order : List (ℕ × ℕ)} (cs : List ChoiceValue) → IsPackingBy p order (is_among cs) → AreApart cs
 lists_apart p cs k v c d i j a b = k.apart v c d (among_from_in cs c i) (among_from_in cs d j) a b
 
 swap_within : (p : PuzzleValue) (cs ds : List ChoiceValue) → IsSwap p (is_among cs) (is_among ds) → LiesWithin cs ds
@@ -102,19 +102,19 @@ module _ (p : PuzzleValue) (z : IsPuzzle p) (group : Group) where
 
   -- ---- alike, and then swapped
 
-  pub to_swaps : (cs ds : List ChoiceValue) → IsPacking (told_apart p) (is_among ds) → AreAlike group (packing_with p cs) (packing_with p ds)
+  pub to_swaps : (cs ds : List ChoiceValue) → IsApart p (is_among ds) → AreAlike group (packing_with p cs) (packing_with p ds)
       → ThenSwaps p (AreAlike group) (packing_with p cs) (packing_with p ds)
   to_swaps cs ds k h = record { between = ds; packs = k; like = h; swaps = no_swap p (is_among ds) }
 
-  pub from_swaps : (cs ds : List ChoiceValue) → IsPacking (told_apart p) (is_among ds) → ThenSwaps p (AreAlike group) (packing_with p cs) (packing_with p ds)
+  pub from_swaps : (cs ds : List ChoiceValue) → IsApart p (is_among ds) → ThenSwaps p (AreAlike group) (packing_with p cs) (packing_with p ds)
       → AreAlike group (packing_with p cs) (packing_with p ds)
   from_swaps cs ds k t =
-      by_cells (packing_with p cs) t.between ds (lists_apart (told_apart p) t.between t.packs) (lists_apart (told_apart p) ds k)
+      by_cells (packing_with p cs) t.between ds (lists_apart p t.between t.packs) (lists_apart p ds k)
       (swap_within p t.between ds t.swaps) (swap_back p t.between ds t.swaps) t.like
 
   -- ---- classes
 
-  module _ (packings labelled : List (List ChoiceValue)) (a : AreAllPackings p packings) (b : AreAllPackings (told_apart p) labelled) where
+  module _ (packings labelled : List (List ChoiceValue)) (a : AreAllPackings p packings) (b : AreAll (IsApart p) labelled) where
     valued : (lists : List (List ChoiceValue)) (x : PackingValue) → IsIn x (map (packing_with p) lists) → IsOfPuzzle x
     valued lists x i = let cs = in_from_map (packing_with p) x lists i in subst IsOfPuzzle (sym cs.2) (of_puzzle cs.0)
 
@@ -134,7 +134,7 @@ module _ (p : PuzzleValue) (z : IsPuzzle p) (group : Group) where
         let cs = in_from_map (packing_with p) x packings i in
         let k = a.sound cs.0 cs.1 in
         let ds = b.complete (is_among cs.0) ((count_swaps_once p z).apart (is_among cs.0) k) in
-        found labelled x cs.0 ds.0 cs.2 ds.1 (lists_apart p cs.0 k) (lists_apart (told_apart p) ds.0 (b.sound ds.0 ds.1))
+        found labelled x cs.0 ds.0 cs.2 ds.1 (lists_apart p cs.0 k) (lists_apart p ds.0 (b.sound ds.0 ds.1))
         (same_within cs.0 ds.0 (λ c. sym (ds.2 c))) (same_within ds.0 cs.0 ds.2)
 
     -- and equal pieces of each of those change places so that it is a packing
@@ -144,7 +144,7 @@ module _ (p : PuzzleValue) (z : IsPuzzle p) (group : Group) where
         let k = b.sound cs.0 cs.1 in
         let other = ((count_swaps_once p z).once (is_among cs.0) k).some in
         let ds = a.complete other.0 other.1 in
-        found packings x cs.0 ds.0 cs.2 ds.1 (lists_apart (told_apart p) cs.0 k) (lists_apart p ds.0 (a.sound ds.0 ds.1))
+        found packings x cs.0 ds.0 cs.2 ds.1 (lists_apart p cs.0 k) (lists_apart p ds.0 (a.sound ds.0 ds.1))
         (λ c j.
         let d = other.2.forth c (among_from_in cs.0 c j) in
         (d.0, in_from_among ds.0 d.0 (ds.2 d.0 ∙ d.1), d.2))
@@ -166,8 +166,8 @@ module _ (p : PuzzleValue) (z : IsPuzzle p) (group : Group) where
 
     -- the classes by a likeness that is this one among the packings in which the pieces are told apart
     pub counted_by : (Such : PackingValue → PackingValue → Type 0)
-        → ((cs ds : List ChoiceValue) → IsPacking (told_apart p) (is_among cs) → IsPacking (told_apart p) (is_among ds) → AreAlike group (packing_with p cs) (packing_with p ds) → Such (packing_with p cs) (packing_with p ds))
-        → ((cs ds : List ChoiceValue) → IsPacking (told_apart p) (is_among cs) → IsPacking (told_apart p) (is_among ds) → Such (packing_with p cs) (packing_with p ds) → AreAlike group (packing_with p cs) (packing_with p ds))
+        → ((cs ds : List ChoiceValue) → IsApart p (is_among cs) → IsApart p (is_among ds) → AreAlike group (packing_with p cs) (packing_with p ds) → Such (packing_with p cs) (packing_with p ds))
+        → ((cs ds : List ChoiceValue) → IsApart p (is_among cs) → IsApart p (is_among ds) → Such (packing_with p cs) (packing_with p ds) → AreAlike group (packing_with p cs) (packing_with p ds))
         → (n : ℕ) → (IsClassCount (AreAlike group) (map (packing_with p) packings) n → IsClassCount Such (map (packing_with p) labelled) n)
         × (IsClassCount Such (map (packing_with p) labelled) n → IsClassCount (AreAlike group) (map (packing_with p) packings) n)
     counted_by Such forth back n =

@@ -5,11 +5,12 @@ use Rattle.std.specs.List.{list_all}
 use Rattle.poly_cells.specs.Coordinates.{Coordinates}
 use Rattle.poly_cells.specs.Sets.{IsIn}
 use Rattle.poly_cells.proofs.MemberLemmas.{in_flat_map, in_from_filter, in_filter, passes}
-use Rattle.poly_texts.specs.Puzzle.{PuzzleValue, IsPuzzle, names_of, has_name, is_needed, is_spare, come_last}
+use Rattle.poly_texts.specs.Puzzle.{PuzzleValue, IsPuzzle, names_of, has_name, is_needed, pieces_of, equal_names, come_last}
+use Rattle.poly_texts.proofs.EqualLemmas.{equal_new, equal_needed, equal_shapes}
 use Rattle.poly_place.specs.declared.alike.Group.TheVariants.{Rotations, Symmetries}
 use Rattle.poly_place.specs.Placements.{IsPlacement, turns_by}
-use Rattle.poly_place.specs.Packings.{ChoiceValue, choice_with, is_any, must_fill, neighbours, IsUsed, first_cell, IsPlaced, IsPacking}
-use Rattle.poly_place.specs.Swaps.{told_apart}
+use Rattle.poly_place.specs.Packings.{ChoiceValue, choice_with, is_any, neighbours, first_cell, IsPlaced, IsPacking}
+use Rattle.poly_place.specs.Swaps.{IsApart}
 use Rattle.poly_place.proofs.DistinctLemmas.{IsDistinct, distinct_names, in_from_name}
 use Rattle.poly_place.proofs.PairLemmas.{all_of, equal_single}
 use Rattle.poly_place.proofs.StandLemmas.{least_in}
@@ -59,28 +60,9 @@ same_front (x ∷ xs) (u ∷ us) ys vs e l =
 
 -- ---- a packing but for the order of equal pieces
 
-pub record IsLaid (p : PuzzleValue) (chosen : ChoiceValue → Bool) : Type 0 where
-  pub placed : (c : ChoiceValue) → chosen c ≡ true → IsPlaced p c
-  pub once : (c d : ChoiceValue) → chosen c ≡ true → chosen d ≡ true → is_any p c.name ≡ false → c.name ≡ d.name → c ≡ d
-  pub used : (name : ℕ) → IsIn name (names_of p.pieces) → is_needed p name ≡ true → is_spare p name ≡ false → IsUsed chosen name
-  pub filled : (v : Coordinates) → must_fill p v ≡ true → (c : ChoiceValue) × (chosen c ≡ true) × IsIn v c.cells
-  pub apart : (v : Coordinates) (c d : ChoiceValue) → chosen c ≡ true → chosen d ≡ true → IsIn v c.cells → IsIn v d.cells → c ≡ d
-
-pub placed_on : (p : PuzzleValue) (c : ChoiceValue) → IsPlaced (told_apart p) c → IsPlaced p c
-placed_on p c h = record { piece = h.piece; named = h.named; rises = h.rises; placed = h.placed; useful = h.useful }
-
-pub placed_apart : (p : PuzzleValue) (c : ChoiceValue) → IsPlaced p c → IsPlaced (told_apart p) c
-placed_apart p c h = record { piece = h.piece; named = h.named; rises = h.rises; placed = h.placed; useful = h.useful }
-
-pub laid_from : (p : PuzzleValue) (chosen : ChoiceValue → Bool) → IsPacking p chosen → IsLaid p chosen
-laid_from p chosen k = record { placed = k.placed; once = k.once; used = k.used; filled = k.filled; apart = k.apart }
-
-pub laid_apart : (p : PuzzleValue) (chosen : ChoiceValue → Bool) → IsPacking (told_apart p) chosen → IsLaid p chosen
-laid_apart p chosen k = record { placed = λ c h. placed_on p c (k.placed c h); once = k.once; used = k.used; filled = k.filled; apart = k.apart }
-
-pub is_apart : (p : PuzzleValue) (chosen : ChoiceValue → Bool) → IsPacking p chosen → IsPacking (told_apart p) chosen
+pub is_apart : (p : PuzzleValue) (chosen : ChoiceValue → Bool) → IsPacking p chosen → IsApart p chosen
 is_apart p chosen k = record {
-  placed = λ c h. placed_apart p c (k.placed c h);
+  placed = k.placed;
   once = k.once;
   used = k.used;
   filled = k.filled;
@@ -90,29 +72,29 @@ is_apart p chosen k = record {
 }
 
 module _ (p : PuzzleValue) (z : IsPuzzle p) where
-  pub distinct_all : IsDistinct (all_of p.equal)
-  distinct_all = distinct_names (all_of p.equal) z.equal_new
+  pub distinct_all : IsDistinct (all_of (equal_names p))
+  distinct_all = distinct_names (all_of (equal_names p)) (equal_new p z)
 
-  pub distinct_in : (g : List ℕ) → IsIn g p.equal → IsDistinct g
-  distinct_in g i = distinct_group p.equal g distinct_all i
+  pub distinct_in : (g : List ℕ) → IsIn g (equal_names p) → IsDistinct g
+  distinct_in g i = distinct_group (equal_names p) g distinct_all i
 
   -- two groups with a name in common are one
-  pub one_group : (g h : List ℕ) (n : ℕ) → IsIn g p.equal → IsIn h p.equal → IsIn n g → IsIn n h → g ≡ h
-  one_group g h n i j a b = sym (group_is p.equal g n distinct_all i a) ∙ group_is p.equal h n distinct_all j b
+  pub one_group : (g h : List ℕ) (n : ℕ) → IsIn g (equal_names p) → IsIn h (equal_names p) → IsIn n g → IsIn n h → g ≡ h
+  one_group g h n i j a b = sym (group_is (equal_names p) g n distinct_all i a) ∙ group_is (equal_names p) h n distinct_all j b
 
   -- equal pieces are pieces that have to be used, once
-  pub equal_known : (g : List ℕ) (n : ℕ) → IsIn g p.equal → IsIn n g → IsIn n (names_of p.pieces) × (is_needed p n ≡ true) × (is_any p n ≡ false)
+  pub equal_known : (g : List ℕ) (n : ℕ) → IsIn g (equal_names p) → IsIn n g → IsIn n (names_of (pieces_of p)) × (is_needed p n ≡ true) × (is_any p n ≡ false)
   equal_known g n i j =
-      let among = in_flat_map (λ (group : List ℕ). group) n g p.equal i j in
-      let known = passes (λ (k : ℕ). has_name (names_of p.pieces) k && is_needed p k) (all_of p.equal) z.equal_needed n among in
-      let named = (and_parts (has_name (names_of p.pieces) n) (is_needed p n) known).0 in
+      let among = in_flat_map (λ (group : List ℕ). group) n g (equal_names p) i j in
+      let known = passes (λ (k : ℕ). has_name (names_of (pieces_of p)) k && is_needed p k) (all_of (equal_names p)) (equal_needed p z) n among in
+      let named = (and_parts (has_name (names_of (pieces_of p)) n) (is_needed p n) known).0 in
       let single = equal_single p z n among in
-      (in_from_name (names_of p.pieces) n named, single.0, single.1)
+      (in_from_name (names_of (pieces_of p)) n named, single.0, single.1)
 
   -- what an equal piece is laid on the other one may be laid on
-  pub moved_to : (g : List ℕ) (m n : ℕ) (cells : List Coordinates) → IsIn g p.equal → IsIn m g → IsIn n g → IsPlaced p (choice_with m cells) → IsPlaced p (choice_with n cells)
+  pub moved_to : (g : List ℕ) (m n : ℕ) (cells : List Coordinates) → IsIn g (equal_names p) → IsIn m g → IsIn n g → IsPlaced p (choice_with m cells) → IsPlaced p (choice_with n cells)
   moved_to g m n cells i a b h =
-      let one = z.equal_shapes g m n i a b in
+      let one = equal_shapes p z g m n i a b in
       record {
         piece = h.piece;
         named = (one.0 h.piece).0 h.named;
@@ -130,7 +112,7 @@ module _ (p : PuzzleValue) (z : IsPuzzle p) where
   some_first [] c d i = absurd i
   some_first (x ∷ xs) c d i = inl refl
 
-  module _ (chosen : ChoiceValue → Bool) (k : IsLaid p chosen) where
+  module _ (chosen : ChoiceValue → Bool) (k : IsApart p chosen) where
     picked : (c : ChoiceValue) → chosen c ≡ true → (chosen (pick chosen c.name) ≡ true) × ((pick chosen c.name).name ≡ c.name)
     unfolding pick
     picked c h =

@@ -6,7 +6,8 @@ use Rattle.std.proofs.lemmas.List.{get_or-map, length-map, get_or_append_left, g
 use Rattle.poly_cells.specs.Sets.{IsIn}
 use Rattle.poly_cells.proofs.SetLemmas.{in_append_right, in_map, in_from_map, in_at}
 use Rattle.poly_cells.proofs.MemberLemmas.{in_flat_map, in_from_flat_map, in_from_filter, in_filter, all_pass, passes, some_passes, passes_some}
-use Rattle.poly_texts.specs.Puzzle.{PuzzleValue, IsPuzzle, names_of, is_spare}
+use Rattle.poly_texts.specs.Puzzle.{PuzzleValue, IsPuzzle, names_of, is_spare, pieces_of, equal_names}
+use Rattle.poly_texts.proofs.EqualLemmas.{equal_new}
 use Rattle.cover_problem.specs.Problem.{option_at}
 use Rattle.poly_place.specs.Packings.{ChoiceValue, choice_with, neighbours, IsUsed, every_choice, partings, leavings_of, leavings, Thing, a_piece, things, things_of, option_of, leaving_option, packing_problem, laying_count, option_count, choice_at, leaving_at, LeavesOut}
 use Rattle.poly_place.proofs.DistinctLemmas.{IsDistinct, distinct_append, distinct_filter, distinct_map, distinct_names}
@@ -155,7 +156,7 @@ from_used p chosen among n u =
 
 pub record IsLeaving (p : PuzzleValue) (parts : List ℕ × List ℕ) : Type 0 where
   pub group : List ℕ
-  pub there : IsIn group p.equal
+  pub there : IsIn group (equal_names p)
   pub parted : IsParted group parts
   pub spare : (n : ℕ) → IsIn n (parts.1) → is_spare p n ≡ true
 
@@ -165,14 +166,14 @@ spare_alone p parts = list_all (is_spare p) (parts.1)
 pub leaving_is : (p : PuzzleValue) (parts : List ℕ × List ℕ) → IsIn parts (leavings p) → IsLeaving p parts
 unfolding leavings
 leaving_is p parts i =
-    let g = in_from_flat_map (leavings_of p) parts p.equal i in
+    let g = in_from_flat_map (leavings_of p) parts (equal_names p) i in
     let kept = in_from_filter (spare_alone p) parts (partings g.0) g.2 in
     record { group = g.0; there = g.1; parted = parted g.0 parts kept.0; spare = passes (is_spare p) (parts.1) kept.1 }
 
-pub leaving_in : (p : PuzzleValue) (xs : List ℕ) (y : ℕ) (ys : List ℕ) → IsIn (xs ++ y ∷ ys) p.equal → ((n : ℕ) → IsIn n (y ∷ ys) → is_spare p n ≡ true) → IsIn (xs, y ∷ ys) (leavings p)
+pub leaving_in : (p : PuzzleValue) (xs : List ℕ) (y : ℕ) (ys : List ℕ) → IsIn (xs ++ y ∷ ys) (equal_names p) → ((n : ℕ) → IsIn n (y ∷ ys) → is_spare p n ≡ true) → IsIn (xs, y ∷ ys) (leavings p)
 unfolding leavings
 leaving_in p xs y ys i spare =
-    in_flat_map (leavings_of p) (xs, y ∷ ys) (xs ++ y ∷ ys) p.equal i
+    in_flat_map (leavings_of p) (xs, y ∷ ys) (xs ++ y ∷ ys) (equal_names p) i
     (in_filter (spare_alone p) (xs, y ∷ ys) (partings (xs ++ y ∷ ys)) (to_parting xs y ys) (all_pass (is_spare p) (y ∷ ys) spare))
 
 in_whole : (group : List ℕ) (parts : List ℕ × List ℕ) → IsParted group parts → (n : ℕ) → IsIn n (parts.1) → IsIn n group
@@ -194,18 +195,18 @@ distinct_leavings p (g ∷ gs) d =
 
 pub leavings_distinct : (p : PuzzleValue) → IsPuzzle p → IsDistinct (leavings p)
 unfolding leavings
-leavings_distinct p z = distinct_leavings p p.equal (distinct_names (all_of p.equal) z.equal_new)
+leavings_distinct p z = distinct_leavings p (equal_names p) (distinct_names (all_of (equal_names p)) (equal_new p z))
 
 -- a copy that is left out is a piece of the puzzle, which is used once at most
 pub record IsCopy (p : PuzzleValue) (n : ℕ) : Type 0 where
-  pub named : IsIn n (names_of p.pieces)
+  pub named : IsIn n (names_of (pieces_of p))
   pub needed : Rattle.poly_texts.specs.Puzzle.is_needed p n ≡ true
   pub single : Rattle.poly_place.specs.Packings.is_any p n ≡ false
   pub thing : IsIn (a_piece n) (things p)
 
-pub equal_copy : (p : PuzzleValue) → IsPuzzle p → (group : List ℕ) (n : ℕ) → IsIn group p.equal → IsIn n group → IsCopy p n
+pub equal_copy : (p : PuzzleValue) → IsPuzzle p → (group : List ℕ) (n : ℕ) → IsIn group (equal_names p) → IsIn n group → IsCopy p n
 equal_copy p z group n i j =
-    let among = in_flat_map (λ (g : List ℕ). g) n group p.equal i j in
+    let among = in_flat_map (λ (g : List ℕ). g) n group (equal_names p) i j in
     let single = equal_single p z n among in
     let named = equal_named p z n among in
     record { named = named; needed = single.0; single = single.1; thing = piece_in p n named single.1 }

@@ -1,8 +1,8 @@
 -- What is left out, one by one.
-use Rattle.std.proofs.Common.{◌≡◌, ℕ, ◌+◌, ◌<◌, ◌≤◌, List, [], ◌∷◌, ◌++◌, map, flat_map, length, get_or, take, drop, Bool, cond, refl, sym, ap, subst, ◌∙◌, arith, append_assoc, vec_items}
+use Rattle.std.proofs.Common.{◌≡◌, ℕ, ◌+◌, ◌<◌, ◌≤◌, List, [], ◌∷◌, ◌++◌, map, length, get_or, take, drop, Bool, cond, refl, sym, ap, subst, ◌∙◌, arith, append_assoc, vec_items}
 use Rattle.std.specs.List.{list_all}
 use Rattle.std.specs.Global.{Vec}
-use Rattle.std.proofs.lemmas.List.{drop_more, take-append-drop, flat_map_more, map-append}
+use Rattle.std.proofs.lemmas.List.{drop_more, take-append-drop, map-append}
 use Rattle.std.proofs.lemmas.List.Sums.{sum_by-append}
 use Rattle.poly_cells.specs.Sets.{IsIn}
 use Rattle.poly_cells.proofs.SetLemmas.{in_from_map, take_next}
@@ -13,13 +13,6 @@ use Rattle.poly_place.proofs.LeavingsLemmas.{IsCopy, leaving_is, left_copy}
 use Rattle.poly_place.proofs.MadeLemmas.{left_out_is}
 
 -- ---- the ends of groups
-
-pub group_left : (test : ℕ → Bool) (groups : List (Vec ℕ)) (i : ℕ) (g : Vec ℕ) (before after : List (List ℕ)) → i < length groups → g ≡ get_or groups i g → after ≡ before ++ left_from test g.items
-    → before ≡ flat_map (left_from test) (map vec_items (take i groups)) → after ≡ flat_map (left_from test) (map vec_items (take (i + 1) groups))
-group_left test groups i g before after lt is push so =
-    push ∙ ap (λ (qs : List (List ℕ)). qs ++ left_from test g.items) so
-    ∙ flat_map_more (left_from test) [] (map vec_items (take i groups)) g.items
-    ∙ ap (flat_map (left_from test)) (sym (ap (map vec_items) (take_next groups i g lt is) ∙ map-append vec_items (take i groups) (g ∷ [])))
 
 left_step : (test : ℕ → Bool) (xs rest : List ℕ) (n : ℕ) → xs ≡ n ∷ rest → left_from test xs ≡ cond (list_all test xs) (xs ∷ []) [] ++ left_from test rest
 left_step test xs rest n e = subst (λ (l : List ℕ). left_from test l ≡ cond (list_all test l) (l ∷ []) [] ++ left_from test rest) (sym e) refl

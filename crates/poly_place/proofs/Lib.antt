@@ -41,6 +41,7 @@ pub mod CompiledLemmas
 pub mod MadeLemmas
 pub mod VolumeLemmas
 pub mod RoomLemmas
+pub mod GroupLemmas
 pub mod LeftLemmas
 pub mod LayerExamples
 pub mod KeyCountLemmas

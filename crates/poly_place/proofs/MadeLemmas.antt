@@ -6,7 +6,7 @@ use Rattle.std.specs.List.{list_all}
 use Rattle.poly_cells.specs.Coordinates.{Coordinates}
 use Rattle.poly_cells.specs.CellWords.{cell_word}
 use Rattle.cover_problem.specs.Problem.{is_small, ProblemValue}
-use Rattle.poly_texts.specs.Puzzle.{PuzzleValue, IsPuzzle, is_spare}
+use Rattle.poly_texts.specs.Puzzle.{PuzzleValue, IsPuzzle, is_spare, maybe_names, equal_names}
 use Rattle.poly_place.specs.Packings.{ChoiceValue, pairs, partings, leavings_of, leavings, leaving_option, every_choice, Thing, a_piece, a_cell, needed_things, other_things, things, thing_item, nodes, things_of, option_of, thing_name, packing_problem}
 use Rattle.std.specs.Cmp.{both_ways as same_tests}
 use Rattle.std.proofs.lemmas.List.Sums.{sum_by-cons, sum_by-append}
@@ -25,15 +25,15 @@ use Rattle.poly_place.proofs.CompiledLemmas.{is_problem}
 -- ---- the names of the items
 
 pub names_are : (p : PuzzleValue)
-    → (((map (λ (n : ℕ). n ∷ []) (needed_names p) ++ map cell_word (filled_cells p)) ++ map (λ (n : ℕ). n ∷ []) p.maybe_pieces) ++ map cell_word p.maybe_cells) ++ map thing_name (flat_map (nodes p) (pairs p))
+    → (((map (λ (n : ℕ). n ∷ []) (needed_names p) ++ map cell_word (filled_cells p)) ++ map (λ (n : ℕ). n ∷ []) (maybe_names p)) ++ map cell_word p.maybe_cells) ++ map thing_name (flat_map (nodes p) (pairs p))
     ≡ map thing_name (things p)
 names_are p =
     ap (λ (xs : List (List ℕ)). xs ++ map thing_name trees)
-    (append_assoc (map (λ (n : ℕ). n ∷ []) (needed_names p) ++ map cell_word (filled_cells p)) (map (λ (n : ℕ). n ∷ []) p.maybe_pieces) (map cell_word p.maybe_cells)
-    ∙ ap₂ (λ (xs ys : List (List ℕ)). xs ++ ys) (two (needed_names p) (filled_cells p)) (two p.maybe_pieces p.maybe_cells))
-    ∙ append_assoc (map thing_name (needed_things p)) (map thing_name (map a_piece p.maybe_pieces ++ map a_cell p.maybe_cells)) (map thing_name trees)
-    ∙ ap (λ (xs : List (List ℕ)). map thing_name (needed_things p) ++ xs) (sym (map-append thing_name (map a_piece p.maybe_pieces ++ map a_cell p.maybe_cells) trees))
-    ∙ ap (λ (xs : List Thing). map thing_name (needed_things p) ++ map thing_name xs) (append_assoc (map a_piece p.maybe_pieces) (map a_cell p.maybe_cells) trees)
+    (append_assoc (map (λ (n : ℕ). n ∷ []) (needed_names p) ++ map cell_word (filled_cells p)) (map (λ (n : ℕ). n ∷ []) (maybe_names p)) (map cell_word p.maybe_cells)
+    ∙ ap₂ (λ (xs ys : List (List ℕ)). xs ++ ys) (two (needed_names p) (filled_cells p)) (two (maybe_names p) p.maybe_cells))
+    ∙ append_assoc (map thing_name (needed_things p)) (map thing_name (map a_piece (maybe_names p) ++ map a_cell p.maybe_cells)) (map thing_name trees)
+    ∙ ap (λ (xs : List (List ℕ)). map thing_name (needed_things p) ++ xs) (sym (map-append thing_name (map a_piece (maybe_names p) ++ map a_cell p.maybe_cells) trees))
+    ∙ ap (λ (xs : List Thing). map thing_name (needed_things p) ++ map thing_name xs) (append_assoc (map a_piece (maybe_names p)) (map a_cell p.maybe_cells) trees)
     ∙ sym (map-append thing_name (needed_things p) (other_things p))
   where
     trees : List Thing
@@ -90,7 +90,7 @@ all_groups p (g ∷ gs) =
 -- as the ends of the groups
 pub left_out_is : (p : PuzzleValue) → left_out p ≡ map (λ (parts : List ℕ × List ℕ). parts.1) (leavings p)
 unfolding leavings
-left_out_is p = all_groups p p.equal
+left_out_is p = all_groups p (equal_names p)
 
 pub leaving_options : (p : PuzzleValue) → map (left_items p) (left_out p) ≡ map (leaving_option p) (leavings p)
 leaving_options p = ap (map (left_items p)) (left_out_is p) ∙ map-map (left_items p) (λ (parts : List ℕ × List ℕ). parts.1) (leavings p)

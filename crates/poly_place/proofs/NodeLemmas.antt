@@ -1,11 +1,8 @@
 -- Nodes of the way up, neighbours and levels, one by one.
-use Rattle.std.proofs.Common.{ap₂, flat_map, vec_items, ◌≡◌, ℕ, zero, suc, ◌+◌, ◌-◌, ◌*◌, ◌^◌, ◌<◌, ◌≤◌, ◌/◌, ◌%◌, ◌==◌, List, [], ◌∷◌, ◌++◌, map, length, get_or, take, Bool, true, false, cond, not, nat_le, refl, sym, ap, subst, ◌∙◌, arith, append_assoc, le-leb}
+use Rattle.std.proofs.Common.{ap₂, ◌≡◌, ℕ, zero, suc, ◌+◌, ◌-◌, ◌*◌, ◌^◌, ◌<◌, ◌≤◌, ◌/◌, ◌%◌, ◌==◌, List, [], ◌∷◌, ◌++◌, map, length, get_or, take, Bool, true, false, cond, not, nat_le, refl, sym, ap, subst, ◌∙◌, arith, append_assoc, le-leb}
 use Rattle.std.specs.List.{position_or_len, range_with_len}
 use Rattle.std.proofs.Math.Nat.{pow-suc}
 use Rattle.std.proofs.lemmas.Bool.Decides.{nat_tests}
-use Rattle.std.specs.Global.{Vec}
-use Rattle.std.proofs.lemmas.List.{flat_map_more, map-append}
-use Rattle.poly_cells.proofs.SetLemmas.{take_next}
 use Rattle.poly_place.specs.Packings.{neighbours, levels_for}
 use Rattle.std.proofs.lemmas.Bool.{cond-true, cond-false}
 use Rattle.poly_place.specs.Turns.{from_right, from_left}
@@ -112,12 +109,3 @@ level_last n level is = ap (level_from n) is
 
 pub leaves_double : (level leaves : ℕ) → leaves ≡ 2 ^ level → leaves * 2 ≡ 2 ^ (level + 1)
 leaves_double level leaves is = ap (λ (m : ℕ). m * 2) is ∙ sym (pow-suc 2 level) ∙ ap (λ (k : ℕ). 2 ^ k) (omega arith)
-
--- ---- groups, one by one
-
-pub group_more : (groups : List (Vec ℕ)) (i : ℕ) (g : Vec ℕ) (before after : List (ℕ × ℕ)) → i < length groups → g ≡ get_or groups i g → after ≡ before ++ neighbours g.items
-    → before ≡ flat_map neighbours (map vec_items (take i groups)) → after ≡ flat_map neighbours (map vec_items (take (i + 1) groups))
-group_more groups i g before after lt is push so =
-    push ∙ ap (λ (qs : List (ℕ × ℕ)). qs ++ neighbours g.items) so
-    ∙ flat_map_more neighbours [] (map vec_items (take i groups)) g.items
-    ∙ ap (flat_map neighbours) (sym (ap (map vec_items) (take_next groups i g lt is) ∙ map-append vec_items (take i groups) (g ∷ [])))

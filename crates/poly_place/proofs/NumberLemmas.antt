@@ -10,7 +10,7 @@ use Rattle.poly_cells.proofs.CoordinateLemmas.{coordinates_total, is_same_Decide
 use Rattle.poly_cells.proofs.SetLemmas.{in_append_left, in_append_cases, in_map, in_from_map, in_at}
 use Rattle.poly_cells.proofs.CellTestLemmas.{in_from_has, has_from_in, is_same_symmetric}
 use Rattle.poly_cells.specs.CellTests.{is_same, has_cell}
-use Rattle.poly_texts.specs.Puzzle.{PuzzleValue, IsPuzzle, names_of, has_name}
+use Rattle.poly_texts.specs.Puzzle.{PuzzleValue, IsPuzzle, names_of, has_name, pieces_of, maybe_names, any_names}
 use Rattle.poly_place.specs.Packings.{must_fill, Thing, a_piece, a_cell, same_thing, needed_things, index_among, thing_item, a_node, other_things, pairs, tree_levels, nodes, is_any, place_of}
 use Rattle.poly_place.specs.Tables.{bit_index}
 use Rattle.poly_place.specs.Compiled.{needed_names, filled_cells, item_number_at, numbered, AreNumbers, before_nodes, ArePlaces, ArePlacesOf}
@@ -61,18 +61,18 @@ needed_item p name place e h =
     let outer = place_append (a_piece name) (needed_things p) (other_things p) (in_append_left (a_piece name) (map a_piece (needed_names p)) (map a_cell (filled_cells p)) here) in
     omega (arith, e, inner, outer)
 
-pub maybe_item : (p : PuzzleValue) (name place later : ℕ) → IsIn name (names_of p.pieces) → is_any p name ≡ false → place ≡ index_among (a_piece name) (map a_piece (needed_names p))
-    → length (needed_names p) ≤ place → later ≡ index_among (a_piece name) (map a_piece p.maybe_pieces) → thing_item p (a_piece name) ≡ length (needed_things p) + later + 1
+pub maybe_item : (p : PuzzleValue) (name place later : ℕ) → IsIn name (names_of (pieces_of p)) → is_any p name ≡ false → place ≡ index_among (a_piece name) (map a_piece (needed_names p))
+    → length (needed_names p) ≤ place → later ≡ index_among (a_piece name) (map a_piece (maybe_names p)) → thing_item p (a_piece name) ≡ length (needed_things p) + later + 1
 unfolding thing_item
 maybe_item p name place later member single e h l =
     let long : length (map a_piece (needed_names p)) ≡ length (needed_names p) = length-map (needed_names p) a_piece in
     let out : IsIn (a_piece name) (map a_piece (needed_names p)) → ⊥ = λ i. let at = (place_in nothing (a_piece name) (map a_piece (needed_names p)) i).0 in omega (arith, e, h, long, at) in
     let outside : IsIn (a_piece name) (needed_things p) → ⊥ =
     λ i. elim (in_append_cases (a_piece name) (map a_piece (needed_names p)) (map a_cell (filled_cells p)) i) [ inl a ↦ out a | inr b ↦ no_cell name (filled_cells p) b ] in
-    let optional : has_name p.maybe_pieces name ≡ true =
-    elim (cases_Bool (has_name p.maybe_pieces name)) [ inl t ↦ t | inr f ↦ absurd (outside (needed_piece p name member (and_from (not (has_name p.maybe_pieces name)) (not (has_name p.any_pieces name)) (not_from_false (has_name p.maybe_pieces name) f) (not_from_false (has_name p.any_pieces name) single)))) ] in
+    let optional : has_name (maybe_names p) name ≡ true =
+    elim (cases_Bool (has_name (maybe_names p) name)) [ inl t ↦ t | inr f ↦ absurd (outside (needed_piece p name member (and_from (not (has_name (maybe_names p) name)) (not (has_name (any_names p) name)) (not_from_false (has_name (maybe_names p) name) f) (not_from_false (has_name (any_names p) name) single)))) ] in
     let past = place_past (a_piece name) (needed_things p) (other_things p) outside in
-    let inner = place_append (a_piece name) (map a_piece p.maybe_pieces) (map a_cell p.maybe_cells ++ flat_map (nodes p) (pairs p)) (in_map a_piece name p.maybe_pieces (in_from_name p.maybe_pieces name optional)) in
+    let inner = place_append (a_piece name) (map a_piece (maybe_names p)) (map a_cell p.maybe_cells ++ flat_map (nodes p) (pairs p)) (in_map a_piece name (maybe_names p) (in_from_name (maybe_names p) name optional)) in
     omega (arith, l, past, inner)
 
 -- ---- cells, by a table
@@ -138,7 +138,7 @@ module _ (p : PuzzleValue) (z : IsPuzzle p) where
       let long : length (map a_piece (needed_names p)) ≡ length (needed_names p) = length-map (needed_names p) a_piece in
       omega (arith, outer, inner, long)
 
-  empty_item : (v : Coordinates) → IsIn v p.maybe_cells → thing_item p (a_cell v) ≡ length (needed_things p) + length p.maybe_pieces + index_among (a_cell v) (map a_cell p.maybe_cells) + 1
+  empty_item : (v : Coordinates) → IsIn v p.maybe_cells → thing_item p (a_cell v) ≡ length (needed_things p) + length (maybe_names p) + index_among (a_cell v) (map a_cell p.maybe_cells) + 1
   unfolding thing_item
   empty_item v i =
       let outside : IsIn (a_cell v) (needed_things p) → ⊥ = λ j.
@@ -150,12 +150,12 @@ module _ (p : PuzzleValue) (z : IsPuzzle p) where
             (not-true _ (and_parts (has_cell p.region v) (not (has_cell p.maybe_cells v)) (subst (λ (u : Coordinates). must_fill p u ≡ true) (sym same) w.2)).1) (has_from_in p.maybe_cells v i)
       ] in
       let outer = place_past (a_cell v) (needed_things p) (other_things p) outside in
-      let inner = place_past (a_cell v) (map a_piece p.maybe_pieces) (map a_cell p.maybe_cells ++ flat_map (nodes p) (pairs p)) (no_piece v p.maybe_pieces) in
+      let inner = place_past (a_cell v) (map a_piece (maybe_names p)) (map a_cell p.maybe_cells ++ flat_map (nodes p) (pairs p)) (no_piece v (maybe_names p)) in
       let last = place_append (a_cell v) (map a_cell p.maybe_cells) (flat_map (nodes p) (pairs p)) (in_map a_cell v p.maybe_cells i) in
-      let long : length (map a_piece p.maybe_pieces) ≡ length p.maybe_pieces = length-map p.maybe_pieces a_piece in
+      let long : length (map a_piece (maybe_names p)) ≡ length (maybe_names p) = length-map (maybe_names p) a_piece in
       omega (arith, outer, inner, last, long)
 
-  pub are_numbers : (base : List ℕ) (first second : ℕ) → length base ≡ 32768 → first ≡ length (needed_names p) → second ≡ length (needed_things p) + length p.maybe_pieces
+  pub are_numbers : (base : List ℕ) (first second : ℕ) → length base ≡ 32768 → first ≡ length (needed_names p) → second ≡ length (needed_things p) + length (maybe_names p)
       → AreNumbers p (numbered (numbered base (first + 1) (filled_cells p)) (second + 1) p.maybe_cells)
   are_numbers base first second long f s =
       let one = numbered base (first + 1) (filled_cells p) in
@@ -199,7 +199,7 @@ are_places region base size s zeros long = record {
 -- ---- the loops
 
 pub written_numbers : (p : PuzzleValue) → IsPuzzle p → (base one old new all left later : List ℕ) (cells empty : List Coordinates) (first second size : ℕ) → length base ≡ 32768 → length base ≡ size
-    → cells ≡ filled_cells p → empty ≡ p.maybe_cells → first ≡ length (needed_names p) → second ≡ length (needed_things p) + length p.maybe_pieces
+    → cells ≡ filled_cells p → empty ≡ p.maybe_cells → first ≡ length (needed_names p) → second ≡ length (needed_things p) + length (maybe_names p)
     → one ≡ numbered base (first + 1) cells → old ≡ take size (one ++ left) → new ≡ numbered old (second + 1) empty
     → all ≡ take size (new ++ later) → AreNumbers p all
 written_numbers p z base one old new all left later cells empty first second size long sized is_filled is_empty f s made was then whole =
@@ -274,8 +274,8 @@ module _ (p : PuzzleValue) (z : IsPuzzle p) where
   not_needed : (n h : ℕ) → IsIn (a_node n h) (needed_things p) → ⊥
   not_needed n h i = elim (needed_cases p (a_node n h) i) [ inl m ↦ let e = m.1 in cc | inr v ↦ let e = v.1 in cc ]
 
-  not_piece : (n h : ℕ) → IsIn (a_node n h) (map a_piece p.maybe_pieces) → ⊥
-  not_piece n h i = let m = in_from_map a_piece (a_node n h) p.maybe_pieces i in let e = m.2 in cc
+  not_piece : (n h : ℕ) → IsIn (a_node n h) (map a_piece (maybe_names p)) → ⊥
+  not_piece n h i = let m = in_from_map a_piece (a_node n h) (maybe_names p) i in let e = m.2 in cc
 
   not_cell : (n h : ℕ) → IsIn (a_node n h) (map a_cell p.maybe_cells) → ⊥
   not_cell n h i = let v = in_from_map a_cell (a_node n h) p.maybe_cells i in let e = v.2 in cc
@@ -287,10 +287,10 @@ module _ (p : PuzzleValue) (z : IsPuzzle p) where
       let n = (get_or (pairs p) k d).0 in
       let trees = flat_map (nodes p) (pairs p) in
       let a = place_past (a_node n h) (needed_things p) (other_things p) (not_needed n h) in
-      let b = place_past (a_node n h) (map a_piece p.maybe_pieces) (map a_cell p.maybe_cells ++ trees) (not_piece n h) in
+      let b = place_past (a_node n h) (map a_piece (maybe_names p)) (map a_cell p.maybe_cells ++ trees) (not_piece n h) in
       let c = place_past (a_node n h) (map a_cell p.maybe_cells) trees (not_cell n h) in
       let e = in_trees p (pairs p) (one_pair p z) (pairs_distinct p z) d k h lt some within in
-      let f = length-map p.maybe_pieces a_piece in
+      let f = length-map (maybe_names p) a_piece in
       let g = length-map p.maybe_cells a_cell in
       omega (arith, a, b, c, e, f, g)
 

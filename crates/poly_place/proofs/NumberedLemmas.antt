@@ -10,8 +10,9 @@ use Rattle.poly_cells.specs.Sets.{IsIn}
 use Rattle.poly_cells.proofs.SetLemmas.{in_map, in_at, take_next}
 use Rattle.poly_cells.proofs.MemberLemmas.{all_pass, passes}
 use Rattle.poly_texts.specs.Words.{is_name}
-use Rattle.poly_texts.specs.Puzzle.{PuzzleValue, IsPuzzle, names_of, has_name, is_needed, are_new}
-use Rattle.poly_texts.proofs.NameLemmas.{pieces_few}
+use Rattle.poly_texts.specs.Puzzle.{PuzzleValue, IsPuzzle, names_of, has_name, is_needed, are_new, pieces_of, equal_names}
+use Rattle.poly_texts.proofs.NameLemmas.{pieces_few, pieces_named}
+use Rattle.poly_texts.proofs.EqualLemmas.{equal_new, equal_needed}
 use Rattle.poly_place.specs.Turns.{from_right, from_left}
 use Rattle.poly_place.specs.Packings.{ChoiceValue, every_choice, IsPlaced, Thing, a_cell, a_node, neighbours, pairs, first_cell, place_of, things, thing_item, levels_for, tree_levels, nodes_by, leaf_of, given, thing_name, node_word}
 use Rattle.poly_place.specs.Compiled.{AreNumbers, ArePlaces, item_number_at, before_nodes, numbers_if, pair_items}
@@ -57,14 +58,14 @@ bare_long (n ∷ ns) = ap (λ (k : ℕ). suc k) (bare_long ns)
 
 pub pairs_few : (p : PuzzleValue) → IsPuzzle p → length (pairs p) ≤ 62
 pairs_few p z =
-    let named : list_all is_name (all_of p.equal) ≡ true =
-    all_pass is_name (all_of p.equal) (λ n i.
-    let known = passes (λ (m : ℕ). has_name (names_of p.pieces) m && is_needed p m) (all_of p.equal) z.equal_needed n i in
-    passes is_name (names_of p.pieces) z.named n (in_from_name (names_of p.pieces) n (and_parts (has_name (names_of p.pieces) n) (is_needed p n) known).0)) in
-    let few = pieces_few (bare (all_of p.equal)) (subst (λ (ns : List ℕ). list_all is_name ns ≡ true) (sym (bare_names (all_of p.equal))) named)
-    (subst (λ (ns : List ℕ). are_new ns ≡ true) (sym (bare_names (all_of p.equal))) z.equal_new) in
-    let same = bare_long (all_of p.equal) in
-    let less = groups_few p.equal in
+    let named : list_all is_name (all_of (equal_names p)) ≡ true =
+    all_pass is_name (all_of (equal_names p)) (λ n i.
+    let known = passes (λ (m : ℕ). has_name (names_of (pieces_of p)) m && is_needed p m) (all_of (equal_names p)) (equal_needed p z) n i in
+    passes is_name (names_of (pieces_of p)) (pieces_named p z) n (in_from_name (names_of (pieces_of p)) n (and_parts (has_name (names_of (pieces_of p)) n) (is_needed p n) known).0)) in
+    let few = pieces_few (bare (all_of (equal_names p))) (subst (λ (ns : List ℕ). list_all is_name ns ≡ true) (sym (bare_names (all_of (equal_names p)))) named)
+    (subst (λ (ns : List ℕ). are_new ns ≡ true) (sym (bare_names (all_of (equal_names p)))) (equal_new p z)) in
+    let same = bare_long (all_of (equal_names p)) in
+    let less = groups_few (equal_names p) in
     omega (arith, few, same, less)
 
 pub leaves_few : (p : PuzzleValue) → 2 ^ tree_levels p ≤ 4096
@@ -189,8 +190,8 @@ choice_placed p z c i = placed_in p (has_shapes p z) c i
 pub choice_leaf : (p : PuzzleValue) → IsPuzzle p → (c : ChoiceValue) → IsIn c (every_choice p) → IsBelow (tree_levels p) (leaf_of p c)
 choice_leaf p z c i = leaf_placed p (has_shapes p z) c (placed_in p (has_shapes p z) c i)
 
-pub choice_member : (p : PuzzleValue) → IsPuzzle p → (c : ChoiceValue) → IsIn c (every_choice p) → IsIn c.name (names_of p.pieces)
-choice_member p z c i = let q = choice_placed p z c i in in_map (λ (n : ℕ × List Coordinates). n.0) (c.name, q.piece) p.pieces q.named
+pub choice_member : (p : PuzzleValue) → IsPuzzle p → (c : ChoiceValue) → IsIn c (every_choice p) → IsIn c.name (names_of (pieces_of p))
+choice_member p z c i = let q = choice_placed p z c i in in_map (λ (n : ℕ × List Coordinates). n.0) (c.name, q.piece) (pieces_of p) q.named
 
 some_from_in : {X : Type 0} (x : X) (xs : List X) → IsIn x xs → 0 < length xs
 some_from_in x [] i = absurd i

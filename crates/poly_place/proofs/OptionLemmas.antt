@@ -7,7 +7,7 @@ use Rattle.std.proofs.lemmas.List.Sums.{sum_by-append}
 use Rattle.std.proofs.lemmas.List.{flat_map_more, take-append-drop, length-append, map_more}
 use Rattle.poly_cells.specs.Coordinates.{Coordinates}
 use Rattle.poly_cells.specs.Sets.{IsIn}
-use Rattle.poly_texts.specs.Puzzle.{PuzzleValue, IsPuzzle}
+use Rattle.poly_texts.specs.Puzzle.{PuzzleValue, IsPuzzle, pieces_of}
 use Rattle.cover_problem.specs.declared.limits.TheConstants.{MOST_OPTIONS, MOST_ENTRIES}
 use Rattle.poly_place.specs.Packings.{ChoiceValue, IsPlaced, choices_of_piece, every_choice, things_of, option_of}
 use Rattle.poly_place.specs.Compiled.{entries_of, has_room}
@@ -36,7 +36,7 @@ choices_next p pieces k q lt is =
     sym (flat_map_more (choices_of_piece p) [] (take k pieces) q
     ∙ ap (flat_map (choices_of_piece p)) (sym (take_next pieces k q lt is)))
 
-pub choices_all : (p : PuzzleValue) → flat_map (choices_of_piece p) p.pieces ≡ every_choice p
+pub choices_all : (p : PuzzleValue) → flat_map (choices_of_piece p) (pieces_of p) ≡ every_choice p
 unfolding every_choice
 choices_all p = refl
 
@@ -59,7 +59,7 @@ no_room : (p : PuzzleValue) (n : ℕ) (xs ys : List ChoiceValue) → has_room p 
 no_room p n xs ys h = false_from_ne_true _ (λ t. both_ways (has_room p n xs) h (fewer p n xs ys t))
 
 -- where there is no room for the choices of the first pieces, there is none for all
-pub no_room_before : (p : PuzzleValue) (n : ℕ) (pieces : List (ℕ × List Coordinates)) (k : ℕ) → pieces ≡ p.pieces → has_room p n (choices_before p pieces k) ≡ false
+pub no_room_before : (p : PuzzleValue) (n : ℕ) (pieces : List (ℕ × List Coordinates)) (k : ℕ) → pieces ≡ pieces_of p → has_room p n (choices_before p pieces k) ≡ false
     → has_room p n (every_choice p) ≡ false
 no_room_before p n pieces k same f =
     ap (has_room p n) (sym (choices_all p) ∙ ap (flat_map (choices_of_piece p)) (sym same ∙ sym (take-append-drop k pieces)) ∙ flat_map-append (choices_of_piece p) (take k pieces) (drop k pieces))

@@ -9,10 +9,11 @@ use Rattle.poly_cells.specs.Coordinates.{Coordinates, coordinates_cmp}
 use Rattle.poly_cells.specs.Sets.{IsIn, in_order}
 use Rattle.poly_cells.proofs.SetLemmas.{in_map, in_from_map, in_at, in_from_order, in_to_order, in_order_rises, not_itself}
 use Rattle.poly_cells.proofs.MemberLemmas.{in_from_flat_map, in_from_filter, in_filter, passes}
-use Rattle.poly_texts.specs.Puzzle.{PuzzleValue, IsPuzzle, names_of, is_needed, is_spare, come_last}
+use Rattle.poly_texts.specs.Puzzle.{PuzzleValue, IsPuzzle, names_of, is_needed, is_spare, pieces_of, equal_names, come_last}
+use Rattle.poly_texts.proofs.EqualLemmas.{spare_last}
 use Rattle.poly_place.specs.Placements.{cells_cmp}
 use Rattle.poly_place.specs.Packings.{ChoiceValue, choice_with, is_any, neighbours, pairs, IsUsed, first_cell, IsPlaced, IsPacking}
-use Rattle.poly_place.specs.Swaps.{AreEqual, IsSwap}
+use Rattle.poly_place.specs.Swaps.{IsApart, AreEqual, IsSwap}
 use Rattle.poly_place.proofs.OrderLemmas.{cells_total, cells_exact}
 use Rattle.poly_place.proofs.DistinctLemmas.{distinct_filter, distinct_rising, at_of_in, distinct_at}
 use Rattle.poly_place.proofs.PairLemmas.{in_group}
@@ -22,10 +23,10 @@ use Rattle.poly_place.proofs.CountLemmas.{filter_short}
 use Rattle.poly_place.proofs.PlacedLemmas.{has_shapes}
 use Rattle.poly_place.proofs.SortLemmas.{length_in_order, distinct_images, rising_at, place_in, at_place_in, place_at, place_next, less_by_first}
 use Rattle.poly_place.proofs.EqualLemmas.{group_of, group_is, is_grouped, grouped_in, in_grouped}
-use Rattle.poly_place.proofs.LaidLemmas.{IsLaid, enough, distinct_all, distinct_in, one_group, equal_known, moved_to, pick, pick_is, among, laid, laid_apart_by, used_in, is_used, cells_in}
+use Rattle.poly_place.proofs.LaidLemmas.{enough, distinct_all, distinct_in, one_group, equal_known, moved_to, pick, pick_is, among, laid, laid_apart_by, used_in, is_used, cells_in}
 
 module _ (p : PuzzleValue) (z : IsPuzzle p) where
-  module _ (chosen : ChoiceValue → Bool) (k : IsLaid p chosen) where
+  module _ (chosen : ChoiceValue → Bool) (k : IsApart p chosen) where
     -- ---- in order
 
     abbrev sorted : List ℕ → List (List Coordinates)
@@ -34,39 +35,39 @@ module _ (p : PuzzleValue) (z : IsPuzzle p) where
     sorted_rises : (g : List ℕ) → IsStrictlySortedBy cells_cmp (sorted g)
     sorted_rises g = in_order_rises cells_total (map (cells_in p z chosen k) (used_in p z chosen k g))
 
-    sorted_long : (g : List ℕ) → IsIn g p.equal → length (sorted g) ≡ length (used_in p z chosen k g)
+    sorted_long : (g : List ℕ) → IsIn g (equal_names p) → length (sorted g) ≡ length (used_in p z chosen k g)
     unfolding cells_in used_in
     sorted_long g i =
         length_in_order cells_cmp cells_exact (map (cells_in p z chosen k) (used_in p z chosen k g))
         (distinct_images (cells_in p z chosen k) (used_in p z chosen k g) (λ a b x y e. laid_apart_by p z chosen k a b (is_used p z chosen k g a x) (is_used p z chosen k g b y) e) (distinct_filter (uses p chosen) g (distinct_in p z g i)))
         ∙ length-map (used_in p z chosen k g) (cells_in p z chosen k)
 
-    sorted_short : (g : List ℕ) → IsIn g p.equal → length (sorted g) ≤ length g
+    sorted_short : (g : List ℕ) → IsIn g (equal_names p) → length (sorted g) ≤ length g
     unfolding used_in
     sorted_short g i = let long = sorted_long g i in let short = filter_short (uses p chosen) g in omega (arith, long, short)
 
     put : ℕ → List Coordinates
-    put n = get_or (sorted (group_of p.equal n)) (place_in (group_of p.equal n) n) []
+    put n = get_or (sorted (group_of (equal_names p) n)) (place_in (group_of (equal_names p) n) n) []
 
-    put_is : (g : List ℕ) (n : ℕ) → IsIn g p.equal → IsIn n g → put n ≡ get_or (sorted g) (place_in g n) []
+    put_is : (g : List ℕ) (n : ℕ) → IsIn g (equal_names p) → IsIn n g → put n ≡ get_or (sorted g) (place_in g n) []
     unfolding put
-    put_is g n i j = ap (λ (h : List ℕ). get_or (sorted h) (place_in h n) []) (group_is p.equal g n (distinct_all p z) i j)
+    put_is g n i j = ap (λ (h : List ℕ). get_or (sorted h) (place_in h n) []) (group_is (equal_names p) g n (distinct_all p z) i j)
 
     -- there is something to put the piece on
     has_put : ℕ → Bool
-    has_put n = nat_lt (place_in (group_of p.equal n) n) (length (sorted (group_of p.equal n)))
+    has_put n = nat_lt (place_in (group_of (equal_names p) n) n) (length (sorted (group_of (equal_names p) n)))
 
-    put_within : (g : List ℕ) (n : ℕ) → IsIn g p.equal → IsIn n g → has_put n ≡ true → place_in g n < length (sorted g)
+    put_within : (g : List ℕ) (n : ℕ) → IsIn g (equal_names p) → IsIn n g → has_put n ≡ true → place_in g n < length (sorted g)
     unfolding has_put
     put_within g n i j t =
-        ltb-true (place_in g n) (length (sorted g)) (sym (ap (λ (h : List ℕ). nat_lt (place_in h n) (length (sorted h))) (group_is p.equal g n (distinct_all p z) i j)) ∙ t)
+        ltb-true (place_in g n) (length (sorted g)) (sym (ap (λ (h : List ℕ). nat_lt (place_in h n) (length (sorted h))) (group_is (equal_names p) g n (distinct_all p z) i j)) ∙ t)
 
-    within_put : (g : List ℕ) (n : ℕ) → IsIn g p.equal → IsIn n g → place_in g n < length (sorted g) → has_put n ≡ true
+    within_put : (g : List ℕ) (n : ℕ) → IsIn g (equal_names p) → IsIn n g → place_in g n < length (sorted g) → has_put n ≡ true
     unfolding has_put
-    within_put g n i j lt = ap (λ (h : List ℕ). nat_lt (place_in h n) (length (sorted h))) (group_is p.equal g n (distinct_all p z) i j) ∙ lt-ltb (place_in g n) (length (sorted g)) lt
+    within_put g n i j lt = ap (λ (h : List ℕ). nat_lt (place_in h n) (length (sorted h))) (group_is (equal_names p) g n (distinct_all p z) i j) ∙ lt-ltb (place_in g n) (length (sorted g)) lt
 
     -- each equal piece is put where one of its group lies
-    put_from : (g : List ℕ) (n : ℕ) → IsIn g p.equal → IsIn n g → has_put n ≡ true → (m : ℕ) × IsIn m g × (uses p chosen m ≡ true) × (put n ≡ (pick p z chosen m).cells)
+    put_from : (g : List ℕ) (n : ℕ) → IsIn g (equal_names p) → IsIn n g → has_put n ≡ true → (m : ℕ) × IsIn m g × (uses p chosen m ≡ true) × (put n ≡ (pick p z chosen m).cells)
     unfolding cells_in used_in
     put_from g n i j t =
         let here = in_at (sorted g) (place_in g n) [] (put_within g n i j t) in
@@ -75,7 +76,7 @@ module _ (p : PuzzleValue) (z : IsPuzzle p) where
         (from.0, kept.0, kept.1, put_is g n i j ∙ from.2)
 
     -- and where one lies another is put
-    put_to : (g : List ℕ) (m : ℕ) → IsIn g p.equal → IsIn m g → uses p chosen m ≡ true → (n : ℕ) × IsIn n g × (has_put n ≡ true) × (put n ≡ (pick p z chosen m).cells)
+    put_to : (g : List ℕ) (m : ℕ) → IsIn g (equal_names p) → IsIn m g → uses p chosen m ≡ true → (n : ℕ) × IsIn n g × (has_put n ≡ true) × (put n ≡ (pick p z chosen m).cells)
     unfolding cells_in used_in
     put_to g m i j t =
         let at = at_of_in [] (cells_in p z chosen k m) (sorted g) (in_to_order cells_exact (cells_in p z chosen k m) (map (cells_in p z chosen k) (used_in p z chosen k g)) (in_map (cells_in p z chosen k) m (used_in p z chosen k g) (in_filter (uses p chosen) m g j t))) in
@@ -87,13 +88,13 @@ module _ (p : PuzzleValue) (z : IsPuzzle p) where
         let fits : place_in g n < length (sorted g) = let lt = at.1 in omega (arith, lt, place) in
         (n, here, within_put g n i here fits, put_is g n i here ∙ ap (λ (q : ℕ). get_or (sorted g) q []) place ∙ at.2)
 
-    put_tells : (g : List ℕ) (m n : ℕ) → IsIn g p.equal → IsIn m g → IsIn n g → has_put m ≡ true → has_put n ≡ true → put m ≡ put n → m ≡ n
+    put_tells : (g : List ℕ) (m n : ℕ) → IsIn g (equal_names p) → IsIn m g → IsIn n g → has_put m ≡ true → has_put n ≡ true → put m ≡ put n → m ≡ n
     put_tells g m n i a b s t e =
         let places = distinct_at [] (sorted g) (place_in g m) (place_in g n) (distinct_rising cells_total (sorted g) (sorted_rises g)) (put_within g m i a s) (put_within g n i b t)
         (sym (put_is g m i a) ∙ e ∙ put_is g n i b) in
         sym (at_place_in g m (distinct_in p z g i) a) ∙ ap (λ (q : ℕ). get_or g q 0) places ∙ at_place_in g n (distinct_in p z g i) b
 
-    put_rises : (g : List ℕ) (m n : ℕ) → IsIn g p.equal → IsIn (m, n) (neighbours g) → has_put n ≡ true → cells_cmp (put m) (put n) ≡ Less
+    put_rises : (g : List ℕ) (m n : ℕ) → IsIn g (equal_names p) → IsIn (m, n) (neighbours g) → has_put n ≡ true → cells_cmp (put m) (put n) ≡ Less
     put_rises g m n i pair t =
         let both = in_group m n g pair in
         let next = place_next g m n (distinct_in p z g i) pair in
@@ -101,7 +102,7 @@ module _ (p : PuzzleValue) (z : IsPuzzle p) where
         ap₂ cells_cmp (put_is g m i both.0) (put_is g n i both.1) ∙ less
 
     -- there is something for the piece before as well
-    put_before : (g : List ℕ) (m n : ℕ) → IsIn g p.equal → IsIn (m, n) (neighbours g) → has_put n ≡ true → has_put m ≡ true
+    put_before : (g : List ℕ) (m n : ℕ) → IsIn g (equal_names p) → IsIn (m, n) (neighbours g) → has_put n ≡ true → has_put m ≡ true
     put_before g m n i pair t =
         let both = in_group m n g pair in
         let next = place_next g m n (distinct_in p z g i) pair in
@@ -109,10 +110,10 @@ module _ (p : PuzzleValue) (z : IsPuzzle p) where
         within_put g m i both.0 (omega (arith, next, lt))
 
     -- there is something for each piece that is no spare copy
-    put_sure : (g : List ℕ) (n : ℕ) → IsIn g p.equal → IsIn n g → is_spare p n ≡ false → has_put n ≡ true
+    put_sure : (g : List ℕ) (n : ℕ) → IsIn g (equal_names p) → IsIn n g → is_spare p n ≡ false → has_put n ≡ true
     unfolding used_in
     put_sure g n i j sure =
-        let many = enough (is_spare p) (uses p chosen) g n (passes (come_last (is_spare p)) p.equal z.spare_last g i)
+        let many = enough (is_spare p) (uses p chosen) g n (passes (come_last (is_spare p)) (equal_names p) (spare_last p z) g i)
         (λ m a f. let known = equal_known p z g m i a in from_used p chosen (among p z chosen k) m (k.used m known.0 known.1 f)) j sure in
         let long = sorted_long g i in
         within_put g n i j (omega (arith, many, long))
@@ -147,7 +148,7 @@ module _ (p : PuzzleValue) (z : IsPuzzle p) where
       from : ChoiceValue
       taken : chosen from ≡ true
       same : from.cells ≡ c.cells
-      equal : (is_grouped p c.name ≡ false) × (c ≡ from) ⊎ ((g : List ℕ) × IsIn g p.equal × IsIn c.name g × IsIn from.name g)
+      equal : (is_grouped p c.name ≡ false) × (c ≡ from) ⊎ ((g : List ℕ) × IsIn g (equal_names p) × IsIn c.name g × IsIn from.name g)
 
     origin : (c : ChoiceValue) → swapped c ≡ true → Origin c
     origin c h =
@@ -209,7 +210,7 @@ module _ (p : PuzzleValue) (z : IsPuzzle p) where
           | inr q ↦ k.once c d (sym (swapped_kept c q) ∙ h) (sym (swapped_kept d (subst (λ (n : ℕ). is_grouped p n ≡ false) e q)) ∙ g) single e
         ]
 
-    swapped_used : (name : ℕ) → IsIn name (names_of p.pieces) → is_needed p name ≡ true → is_spare p name ≡ false → IsUsed swapped name
+    swapped_used : (name : ℕ) → IsIn name (names_of (pieces_of p)) → is_needed p name ≡ true → is_spare p name ≡ false → IsUsed swapped name
     swapped_used name i n sure =
         elim (cases_Bool (is_grouped p name)) [
           | inl g ↦
@@ -220,7 +221,7 @@ module _ (p : PuzzleValue) (z : IsPuzzle p) where
 
     swapped_in_turn : (m n : ℕ) → IsIn (m, n) (pairs p) → IsUsed swapped n → IsUsed swapped m
     swapped_in_turn m n i u =
-        let pair = in_from_flat_map neighbours (m, n) p.equal i in
+        let pair = in_from_flat_map neighbours (m, n) (equal_names p) i in
         let both = in_group m n pair.0 pair.2 in
         let grouped = in_grouped p n pair.0 pair.1 both.1 in
         let has = subst (λ (a : ℕ). has_put a ≡ true) u.2 (swapped_parts u.0 (subst (λ (a : ℕ). is_grouped p a ≡ true) (sym u.2) grouped) u.1).0 in
@@ -259,7 +260,7 @@ module _ (p : PuzzleValue) (z : IsPuzzle p) where
 
     swapped_ordered : (c d : ChoiceValue) → swapped c ≡ true → swapped d ≡ true → IsIn (c.name, d.name) (pairs p) → coordinates_cmp (first_cell c.cells) (first_cell d.cells) ≡ Less
     swapped_ordered c d h g i =
-        let pair = in_from_flat_map neighbours (c.name, d.name) p.equal i in
+        let pair = in_from_flat_map neighbours (c.name, d.name) (equal_names p) i in
         let both = in_group c.name d.name pair.0 pair.2 in
         let one = swapped_put c (in_grouped p c.name pair.0 pair.1 both.0) h in
         let other = swapped_put d (in_grouped p d.name pair.0 pair.1 both.1) g in

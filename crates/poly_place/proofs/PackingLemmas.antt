@@ -5,7 +5,7 @@ use Rattle.std.proofs.lemmas.Bool.{cases_Bool, cond-true, cond-false, not-true, 
 use Rattle.poly_cells.specs.Coordinates.{Coordinates}
 use Rattle.poly_cells.specs.Sets.{IsIn}
 use Rattle.poly_cells.proofs.SetLemmas.{in_append_right, in_append_cases, in_map}
-use Rattle.poly_texts.specs.Puzzle.{PuzzleValue, IsPuzzle, names_of, has_name, is_needed, is_spare}
+use Rattle.poly_texts.specs.Puzzle.{PuzzleValue, IsPuzzle, names_of, has_name, is_needed, is_spare, pieces_of, equal_names, spare_names}
 use Rattle.shared_words.specs.Lists.{has}
 use Rattle.cover_problem.specs.Problem.{option_at}
 use Rattle.cover_problem.specs.ExactCover.{IsExactCover}
@@ -15,6 +15,7 @@ use Rattle.std.proofs.lemmas.Cmp.{tied_itself}
 use Rattle.poly_place.proofs.OrderLemmas.{cells_total, cells_exact}
 use Rattle.poly_place.specs.Chosen.{same_choice}
 use Rattle.poly_cells.proofs.MemberLemmas.{some_passes, passes_some, all_pass, passes, in_to_range, in_from_range, in_flat_map, in_from_flat_map}
+use Rattle.poly_texts.proofs.EqualLemmas.{spare_equal}
 use Rattle.poly_place.proofs.DistinctLemmas.{in_from_name}
 use Rattle.poly_place.proofs.ThingLemmas.{item_same, item_positive, item_needed, needed_piece, needed_cell, needed_cases, needed_at, parts_in, the_piece, the_cell, on_right, on_left, part_of, piece_part, cell_part}
 use Rattle.poly_place.specs.Turns.{from_right, from_left}
@@ -81,19 +82,19 @@ module _ (p : PuzzleValue) (z : IsPuzzle p) (h : HasShapes p) (set : ℕ → Boo
   ]
 
   -- a copy that isn't used is spare, and is left out
-  left_in : IsPacking p chosen → (name : ℕ) → IsIn name (names_of p.pieces) → is_needed p name ≡ true → uses p chosen name ≡ false
+  left_in : IsPacking p chosen → (name : ℕ) → IsIn name (names_of (pieces_of p)) → is_needed p name ≡ true → uses p chosen name ≡ false
       → (parts : List ℕ × List ℕ) × IsIn parts (leavings p) × LeavesOut chosen parts × IsIn name (parts.1)
   left_in k name i n unused =
-      let g = in_from_flat_map (λ (group : List ℕ). group) name p.equal (in_from_name (all_of p.equal) name (passes (has_name (all_of p.equal)) p.spare z.spare_equal name (in_from_name p.spare name (spare_if name i n unused)))) in
+      let g = in_from_flat_map (λ (group : List ℕ). group) name (equal_names p) (in_from_name (all_of (equal_names p)) name (passes (has_name (all_of (equal_names p))) (spare_names p) (spare_equal p z) name (in_from_name (spare_names p) name (spare_if name i n unused)))) in
       parts_of g.0 g.1 g.2
     where
-      spare_if : (m : ℕ) → IsIn m (names_of p.pieces) → is_needed p m ≡ true → uses p chosen m ≡ false → is_spare p m ≡ true
+      spare_if : (m : ℕ) → IsIn m (names_of (pieces_of p)) → is_needed p m ≡ true → uses p chosen m ≡ false → is_spare p m ≡ true
       spare_if m j q f = true_from_ne_false (is_spare p m) (λ sure. both_ways (uses p chosen m) f (from_used p chosen laid_among m (k.used m j q sure)))
 
-      parts_of : (group : List ℕ) → IsIn group p.equal → IsIn name group → (parts : List ℕ × List ℕ) × IsIn parts (leavings p) × LeavesOut chosen parts × IsIn name (parts.1)
+      parts_of : (group : List ℕ) → IsIn group (equal_names p) → IsIn name group → (parts : List ℕ × List ℕ) × IsIn parts (leavings p) × LeavesOut chosen parts × IsIn name (parts.1)
       parts_of group there member =
           let split = split_by (uses p chosen) group
-          (λ a b j t. from_used p chosen laid_among a (k.in_turn a b (in_flat_map neighbours (a, b) group p.equal there j) (used_from p chosen b t))) in
+          (λ a b j t. from_used p chosen laid_among a (k.in_turn a b (in_flat_map neighbours (a, b) group (equal_names p) there j) (used_from p chosen b t))) in
           by_rest split.yes split.no split.whole split.pass split.fail
         where
           by_rest : (firsts others : List ℕ) → group ≡ firsts ++ others → ((m : ℕ) → IsIn m firsts → uses p chosen m ≡ true) → ((m : ℕ) → IsIn m others → uses p chosen m ≡ false)
@@ -101,7 +102,7 @@ module _ (p : PuzzleValue) (z : IsPuzzle p) (h : HasShapes p) (set : ℕ → Boo
           by_rest firsts [] whole pass fail = absurd (both_ways (uses p chosen name) unused (pass name (subst (λ (ns : List ℕ). IsIn name ns) (whole ∙ append-nil firsts) member)))
           by_rest firsts (y ∷ ys) whole pass fail = (
             (firsts, y ∷ ys),
-            leaving_in p firsts y ys (subst (λ (ns : List ℕ). IsIn ns p.equal) whole there) (λ m j.
+            leaving_in p firsts y ys (subst (λ (ns : List ℕ). IsIn ns (equal_names p)) whole there) (λ m j.
                 let copy = equal_copy p z group m there (subst (λ (ns : List ℕ). IsIn m ns) (sym whole) (in_append_right m firsts (y ∷ ys) j)) in
                 spare_if m copy.named copy.needed (fail m j)),
             record {
@@ -203,7 +204,7 @@ module _ (p : PuzzleValue) (z : IsPuzzle p) (h : HasShapes p) (set : ℕ → Boo
   needed_part : (c : ChoiceValue) → IsPlaced p c → (t : Thing) × IsIn t (needed_things p) × IsIn t (things_of p c)
   needed_part c q =
       elim q.useful [
-        | inl n ↦ (a_piece c.name, needed_piece p c.name (in_map (λ (m : ℕ × List Coordinates). m.0) (c.name, q.piece) p.pieces q.named) n, piece_part p c (needed_single p c.name n))
+        | inl n ↦ (a_piece c.name, needed_piece p c.name (in_map (λ (m : ℕ × List Coordinates). m.0) (c.name, q.piece) (pieces_of p) q.named) n, piece_part p c (needed_single p c.name n))
         | inr v ↦ (a_cell v.0, needed_cell p v.0 v.2, cell_part p c v.0 v.1)
       ]
 

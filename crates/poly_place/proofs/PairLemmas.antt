@@ -4,7 +4,8 @@ use Rattle.std.proofs.lemmas.Bool.{and_parts, not-true}
 use Rattle.poly_cells.specs.Sets.{IsIn}
 use Rattle.poly_cells.proofs.SetLemmas.{in_append_left, in_append_right, in_append_cases}
 use Rattle.poly_cells.proofs.MemberLemmas.{in_flat_map, in_from_flat_map, passes}
-use Rattle.poly_texts.specs.Puzzle.{PuzzleValue, IsPuzzle, names_of, has_name, is_needed}
+use Rattle.poly_texts.specs.Puzzle.{PuzzleValue, IsPuzzle, names_of, has_name, is_needed, pieces_of, maybe_names, any_names, equal_names}
+use Rattle.poly_texts.proofs.EqualLemmas.{equal_new, equal_needed}
 use Rattle.poly_place.specs.Packings.{neighbours, pairs, is_any}
 use Rattle.poly_place.proofs.DistinctLemmas.{IsDistinct, distinct_names, in_from_name}
 
@@ -96,25 +97,25 @@ next_among m n k (g ∷ gs) d i j =
 -- ---- of a puzzle
 
 pub pair_differs : (p : PuzzleValue) → IsPuzzle p → (m n : ℕ) → IsIn (m, n) (pairs p) → m ≡ n → ⊥
-pair_differs p z m n i e = differ_among m n p.equal (distinct_names (all_of p.equal) z.equal_new) i e
+pair_differs p z m n i e = differ_among m n (equal_names p) (distinct_names (all_of (equal_names p)) (equal_new p z)) i e
 
 pub pair_next : (p : PuzzleValue) → IsPuzzle p → (m n k : ℕ) → IsIn (m, n) (pairs p) → IsIn (m, k) (pairs p) → n ≡ k
-pair_next p z m n k i j = next_among m n k p.equal (distinct_names (all_of p.equal) z.equal_new) i j
+pair_next p z m n k i j = next_among m n k (equal_names p) (distinct_names (all_of (equal_names p)) (equal_new p z)) i j
 
 -- equal pieces are used once
-pub equal_single : (p : PuzzleValue) → IsPuzzle p → (n : ℕ) → IsIn n (all_of p.equal) → (is_needed p n ≡ true) × (is_any p n ≡ false)
+pub equal_single : (p : PuzzleValue) → IsPuzzle p → (n : ℕ) → IsIn n (all_of (equal_names p)) → (is_needed p n ≡ true) × (is_any p n ≡ false)
 equal_single p z n i =
-    let known = passes (λ (k : ℕ). has_name (names_of p.pieces) k && is_needed p k) (all_of p.equal) z.equal_needed n i in
-    let needed = (and_parts (has_name (names_of p.pieces) n) (is_needed p n) known).1 in
-    (needed, not-true (is_any p n) (and_parts (not (has_name p.maybe_pieces n)) (not (has_name p.any_pieces n)) needed).1)
+    let known = passes (λ (k : ℕ). has_name (names_of (pieces_of p)) k && is_needed p k) (all_of (equal_names p)) (equal_needed p z) n i in
+    let needed = (and_parts (has_name (names_of (pieces_of p)) n) (is_needed p n) known).1 in
+    (needed, not-true (is_any p n) (and_parts (not (has_name (maybe_names p) n)) (not (has_name (any_names p) n)) needed).1)
 
 -- and their names are those of pieces
-pub equal_named : (p : PuzzleValue) → IsPuzzle p → (n : ℕ) → IsIn n (all_of p.equal) → IsIn n (names_of p.pieces)
+pub equal_named : (p : PuzzleValue) → IsPuzzle p → (n : ℕ) → IsIn n (all_of (equal_names p)) → IsIn n (names_of (pieces_of p))
 equal_named p z n i =
-    let known = passes (λ (k : ℕ). has_name (names_of p.pieces) k && is_needed p k) (all_of p.equal) z.equal_needed n i in
-    in_from_name (names_of p.pieces) n (and_parts (has_name (names_of p.pieces) n) (is_needed p n) known).0
+    let known = passes (λ (k : ℕ). has_name (names_of (pieces_of p)) k && is_needed p k) (all_of (equal_names p)) (equal_needed p z) n i in
+    in_from_name (names_of (pieces_of p)) n (and_parts (has_name (names_of (pieces_of p)) n) (is_needed p n) known).0
 
 pub pair_single : (p : PuzzleValue) → IsPuzzle p → (m n : ℕ) → IsIn (m, n) (pairs p) → (is_any p m ≡ false) × (is_any p n ≡ false)
 pair_single p z m n i =
-    let both = among_groups m n p.equal i in
+    let both = among_groups m n (equal_names p) i in
     ((equal_single p z m both.0).1, (equal_single p z n both.1).1)

@@ -11,12 +11,13 @@ use Rattle.std.proofs.lemmas.List.Kept.{IsStrictlySortedBy-filter}
 use Rattle.poly_cells.specs.Coordinates.{Coordinates}
 use Rattle.poly_cells.specs.Sets.{IsIn, in_order}
 use Rattle.poly_cells.proofs.SetLemmas.{in_at, in_map, in_from_map, in_order_rises, rising_head, rising_tail, rising_cons, rising_none, rising_map, same_members}
-use Rattle.poly_texts.specs.Puzzle.{PuzzleValue, IsPuzzle, names_of, has_name}
+use Rattle.poly_texts.specs.Puzzle.{PuzzleValue, IsPuzzle, names_of, has_name, pieces_of, any_names}
 use Rattle.shared_words.specs.Lists.{has}
 use Rattle.cover_problem.specs.ExactCover.{IsExactCover}
 use Rattle.poly_place.specs.Packings.{ChoiceValue, choice_with, every_choice, choices_of_piece, choice_at, laying_count, packing_problem}
 use Rattle.poly_place.specs.Chosen.{laying, chosen_by, is_among, same_choice, names_in, AreInPieceOrder, ComeByPiece, place_in}
 use Rattle.poly_cells.proofs.MemberLemmas.{in_from_filter, in_filter, passes_some}
+use Rattle.poly_texts.proofs.NameLemmas.{pieces_new}
 use Rattle.poly_place.proofs.DistinctLemmas.{IsDistinct, distinct_names, in_from_name, name_from_in}
 use Rattle.poly_place.proofs.FormLemmas.{place_tells}
 use Rattle.poly_place.proofs.PackingLemmas.{same_choice_itself}
@@ -108,15 +109,15 @@ piece_by_piece p (n ∷ ns) d i j lt within =
     ]
 
 choice_place : PuzzleValue → ℕ → ℕ
-choice_place p o = place_in (names_of p.pieces) (choice_at p o).name
+choice_place p o = place_in (names_of (pieces_of p)) (choice_at p o).name
 
 choices_by_piece : (p : PuzzleValue) → IsPuzzle p → (a b : ℕ) → 0 < a → a < b → b ≤ length (every_choice p) → choice_place p a ≤ choice_place p b
 unfolding every_choice choice_place
-choices_by_piece p z a b some lt within = piece_by_piece p p.pieces (distinct_names (names_of p.pieces) z.new) (a - 1) (b - 1) (omega (arith, some, lt)) (omega (arith, some, lt, within))
+choices_by_piece p z a b some lt within = piece_by_piece p (pieces_of p) (distinct_names (names_of (pieces_of p)) (pieces_new p z)) (a - 1) (b - 1) (omega (arith, some, lt)) (omega (arith, some, lt, within))
 
-choice_named : (p : PuzzleValue) (c : ChoiceValue) → IsIn c (every_choice p) → IsIn c.name (names_of p.pieces)
+choice_named : (p : PuzzleValue) (c : ChoiceValue) → IsIn c (every_choice p) → IsIn c.name (names_of (pieces_of p))
 unfolding every_choice
-choice_named p c i = named_among p p.pieces c i
+choice_named p c i = named_among p (pieces_of p) c i
 
 -- ---- what doesn't fall from a member to a greater one never falls
 
@@ -143,17 +144,17 @@ module _ (p : PuzzleValue) (z : IsPuzzle p) (path : List ℕ) (e : IsExactCover 
   among : (o : ℕ) → IsIn o (laying p path) → is_among (chosen_by p path) (choice_at p o) ≡ true
   among o i = passes_some (same_choice (choice_at p o)) (choice_at p o) (chosen_by p path) (in_map (choice_at p) o (laying p path) i) (same_choice_itself (choice_at p o))
 
-  named_in : (o : ℕ) → IsIn o (laying p path) → IsIn (choice_at p o).name (names_of p.pieces)
+  named_in : (o : ℕ) → IsIn o (laying p path) → IsIn (choice_at p o).name (names_of (pieces_of p))
   named_in o i = let low = in_path o i in choice_named p (choice_at p o) (chosen_in p o low.0 low.1)
 
   pub placed_by_piece : ComeByPiece p (chosen_by p path)
   unfolding choice_place
   placed_by_piece =
-      never_falls nat_cmp (choice_at p) (λ (c : ChoiceValue). place_in (names_of p.pieces) c.name) (laying p path) laying_rises
+      never_falls nat_cmp (choice_at p) (λ (c : ChoiceValue). place_in (names_of (pieces_of p)) c.name) (laying p path) laying_rises
       (λ a b i j less. choices_by_piece p z a b (in_path a i).0 (from_less a b less) (in_path b j).1)
 
   -- where no piece may be used several times
-  places_rise : p.any_pieces ≡ [] → (a b : ℕ) → IsIn a (laying p path) → IsIn b (laying p path) → a < b → choice_place p a < choice_place p b
+  places_rise : (any_names p) ≡ [] → (a b : ℕ) → IsIn a (laying p path) → IsIn b (laying p path) → a < b → choice_place p a < choice_place p b
   unfolding choice_place
   places_rise none a b i j lt =
       let low = in_path a i in
@@ -161,26 +162,26 @@ module _ (p : PuzzleValue) (z : IsPuzzle p) (path : List ℕ) (e : IsExactCover 
       let upto = choices_by_piece p z a b low.0 lt high.1 in
       let differ : choice_place p a ≡ choice_place p b → ⊥ = λ same.
       let one = (cover_packs p z path e).once (choice_at p a) (choice_at p b) (among a i) (among b j) (ap (λ (ns : List ℕ). has_name ns (choice_at p a).name) none)
-      (place_tells (names_of p.pieces) (choice_at p a).name (choice_at p b).name (named_in a i) (named_in b j) same) in
+      (place_tells (names_of (pieces_of p)) (choice_at p a).name (choice_at p b).name (named_in a i) (named_in b j) same) in
       let number = same_number p z a b low.0 low.1 high.0 high.1 one in
       omega (arith, number, lt) in
       omega (arith, upto, differ)
 
-  names_sorted : p.any_pieces ≡ [] → IsStrictlySortedBy (by_place (names_of p.pieces)) (names_in (chosen_by p path))
+  names_sorted : (any_names p) ≡ [] → IsStrictlySortedBy (by_place (names_of (pieces_of p))) (names_in (chosen_by p path))
   unfolding choice_place by_place
   names_sorted none =
-      rising_map (λ (c : ChoiceValue). c.name) (λ (c d : ChoiceValue). by_place (names_of p.pieces) c.name d.name) (by_place (names_of p.pieces)) (chosen_by p path) (λ c d i j h. h)
-      (rising_map (choice_at p) nat_cmp (λ (c d : ChoiceValue). by_place (names_of p.pieces) c.name d.name) (laying p path)
+      rising_map (λ (c : ChoiceValue). c.name) (λ (c d : ChoiceValue). by_place (names_of (pieces_of p)) c.name d.name) (by_place (names_of (pieces_of p))) (chosen_by p path) (λ c d i j h. h)
+      (rising_map (choice_at p) nat_cmp (λ (c d : ChoiceValue). by_place (names_of (pieces_of p)) c.name d.name) (laying p path)
       (λ a b i j h. less_from (choice_place p a) (choice_place p b) (places_rise none a b i j (from_less a b h)))
       laying_rises)
 
-  pub placed_in_order : p.any_pieces ≡ [] → AreInPieceOrder p (chosen_by p path)
+  pub placed_in_order : (any_names p) ≡ [] → AreInPieceOrder p (chosen_by p path)
   placed_in_order none =
       let names = names_in (chosen_by p path) in
-      same_members (place_total (names_of p.pieces)) names (filter (has_name names) (names_of p.pieces)) (names_sorted none)
-      (IsStrictlySortedBy-filter (by_place (names_of p.pieces)) (has_name names) (names_of p.pieces) (names_rise (names_of p.pieces) (distinct_names (names_of p.pieces) z.new)))
+      same_members (place_total (names_of (pieces_of p))) names (filter (has_name names) (names_of (pieces_of p))) (names_sorted none)
+      (IsStrictlySortedBy-filter (by_place (names_of (pieces_of p))) (has_name names) (names_of (pieces_of p)) (names_rise (names_of (pieces_of p)) (distinct_names (names_of (pieces_of p)) (pieces_new p z))))
       (λ x i.
       let c = in_from_map (λ (c : ChoiceValue). c.name) x (chosen_by p path) i in
       let o = in_from_map (choice_at p) c.0 (laying p path) c.1 in
-      in_filter (has_name names) x (names_of p.pieces) (subst (λ (n : ℕ). IsIn n (names_of p.pieces)) (sym (c.2 ∙ ap (λ (d : ChoiceValue). d.name) o.2)) (named_in o.0 o.1)) (name_from_in names x i))
-      (λ x i. in_from_name names x (in_from_filter (has_name names) x (names_of p.pieces) i).1)
+      in_filter (has_name names) x (names_of (pieces_of p)) (subst (λ (n : ℕ). IsIn n (names_of (pieces_of p))) (sym (c.2 ∙ ap (λ (d : ChoiceValue). d.name) o.2)) (named_in o.0 o.1)) (name_from_in names x i))
+      (λ x i. in_from_name names x (in_from_filter (has_name names) x (names_of (pieces_of p)) i).1)

@@ -6,11 +6,12 @@ use Rattle.poly_cells.specs.Coordinates.{Coordinates}
 use Rattle.poly_cells.specs.Sets.{IsIn}
 use Rattle.poly_cells.specs.Shapes.{IsShape}
 use Rattle.poly_cells.proofs.SetLemmas.{in_map, in_from_map}
-use Rattle.poly_texts.specs.Puzzle.{PuzzleValue, IsPuzzle, names_of, is_needed}
+use Rattle.poly_texts.specs.Puzzle.{PuzzleValue, IsPuzzle, names_of, is_needed, pieces_of}
 use Rattle.poly_place.specs.Placements.{placements}
 use Rattle.poly_place.specs.Packings.{ChoiceValue, choice_with, turns_of, must_fill, IsPlaced, is_useful, leaves_room, may_be_chosen, choices_of_piece, every_choice}
 use Rattle.poly_place.proofs.OrderLemmas.{cells_total}
 use Rattle.poly_cells.proofs.MemberLemmas.{in_flat_map, in_from_flat_map, in_from_filter, in_filter, some_passes, passes_some}
+use Rattle.poly_texts.proofs.NameLemmas.{pieces_new, pieces_shaped}
 use Rattle.poly_place.proofs.PlacementLemmas.{sound, complete, placements_rise}
 use Rattle.poly_place.proofs.DistinctLemmas.{IsDistinct, distinct_append, distinct_filter, distinct_map, distinct_rising, distinct_names}
 
@@ -18,13 +19,13 @@ use Rattle.poly_place.proofs.DistinctLemmas.{IsDistinct, distinct_append, distin
 
 -- each of the pieces and the region are shapes
 pub record HasShapes (p : PuzzleValue) : Type 0 where
-  pub pieces : (named : ℕ × List Coordinates) → IsIn named p.pieces → IsShape (named.1)
+  pub pieces : (named : ℕ × List Coordinates) → IsIn named (pieces_of p) → IsShape (named.1)
   pub region : IsShape p.region
   pub few : length p.region ≤ 4096
 
 pub has_shapes : (p : PuzzleValue) → IsPuzzle p → HasShapes p
 has_shapes p z = record {
-  pieces = λ named i. (z.shaped named i).shape;
+  pieces = λ named i. (pieces_shaped p z named i).shape;
   region = record { some = z.some_cell; rises = z.rises; limits = z.limits };
   few = z.few;
 }
@@ -42,7 +43,7 @@ from_useful p c h =
       | inr r ↦ or_right (is_needed p c.name) (list_any (must_fill p) c.cells) (passes_some (must_fill p) r.0 c.cells r.1 r.2)
     ]
 
-placed_from : (p : PuzzleValue) → HasShapes p → (name : ℕ) (piece set : List Coordinates) → IsIn (name, piece) p.pieces → IsIn set (placements (turns_of p name) piece p.region) → is_useful p (choice_with name set) ≡ true
+placed_from : (p : PuzzleValue) → HasShapes p → (name : ℕ) (piece set : List Coordinates) → IsIn (name, piece) (pieces_of p) → IsIn set (placements (turns_of p name) piece p.region) → is_useful p (choice_with name set) ≡ true
     → IsPlaced p (choice_with name set)
 placed_from p s name piece set named i h =
     let found = sound (turns_of p name) piece p.region set (s.pieces (name, piece) named) i in
@@ -51,7 +52,7 @@ placed_from p s name piece set named i h =
 pub placed_in : (p : PuzzleValue) → HasShapes p → (c : ChoiceValue) → IsIn c (every_choice p) → IsPlaced p c
 unfolding every_choice
 placed_in p s c i =
-    let n = in_from_flat_map (choices_of_piece p) c p.pieces i in
+    let n = in_from_flat_map (choices_of_piece p) c (pieces_of p) i in
     let kept = in_from_filter (may_be_chosen p) c (map (choice_with (n.0.0)) (placements (turns_of p (n.0.0)) (n.0.1) p.region)) n.2 in
     let set = in_from_map (choice_with (n.0.0)) c (placements (turns_of p (n.0.0)) (n.0.1) p.region) kept.0 in
     subst (IsPlaced p) (sym set.2)
@@ -64,7 +65,7 @@ placement_in p s c h =
 pub in_placed : (p : PuzzleValue) → HasShapes p → (c : ChoiceValue) → IsPlaced p c → leaves_room p c ≡ true → IsIn c (every_choice p)
 unfolding every_choice
 in_placed p s c h room =
-    in_flat_map (choices_of_piece p) c (c.name, h.piece) p.pieces h.named
+    in_flat_map (choices_of_piece p) c (c.name, h.piece) (pieces_of p) h.named
     (in_filter (may_be_chosen p) c (map (choice_with c.name) (placements (turns_of p c.name) h.piece p.region)) (placement_in p s c h) (and_from (is_useful p c) (leaves_room p c) (from_useful p c h.useful) room))
 
 -- what is placed, whether or not it leaves room
@@ -72,12 +73,12 @@ layable_of_piece : PuzzleValue → ℕ × List Coordinates → List ChoiceValue
 layable_of_piece p named = filter (is_useful p) (map (choice_with (named.0)) (placements (turns_of p (named.0)) (named.1) p.region))
 
 pub layable : PuzzleValue → List ChoiceValue
-layable p = flat_map (layable_of_piece p) p.pieces
+layable p = flat_map (layable_of_piece p) (pieces_of p)
 
 pub in_layable : (p : PuzzleValue) → HasShapes p → (c : ChoiceValue) → IsPlaced p c → IsIn c (layable p)
 unfolding layable layable_of_piece
 in_layable p s c h =
-    in_flat_map (layable_of_piece p) c (c.name, h.piece) p.pieces h.named
+    in_flat_map (layable_of_piece p) c (c.name, h.piece) (pieces_of p) h.named
     (in_filter (is_useful p) c (map (choice_with c.name) (placements (turns_of p c.name) h.piece p.region)) (placement_in p s c h) (from_useful p c h.useful))
 
 -- ---- no choice comes twice
@@ -107,4 +108,4 @@ distinct_of p (n ∷ ns) d =
 
 pub choices_distinct : (p : PuzzleValue) → IsPuzzle p → IsDistinct (every_choice p)
 unfolding every_choice
-choices_distinct p z = distinct_of p p.pieces (distinct_names (names_of p.pieces) z.new)
+choices_distinct p z = distinct_of p (pieces_of p) (distinct_names (names_of (pieces_of p)) (pieces_new p z))

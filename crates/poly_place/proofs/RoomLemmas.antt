@@ -2,7 +2,7 @@
 use Rattle.std.proofs.Common.{◌≡◌, ℕ, ◌+◌, ◌<◌, ◌≤◌, List, ◌++◌, length, get_or, false, nat_le, ◌⊎◌, inl, inr, sym, ap, ◌∙◌, arith}
 use Rattle.std.proofs.lemmas.Bool.{and_parts, leb-true, false_from_ne_true}
 use Rattle.poly_cells.specs.Coordinates.{Coordinates}
-use Rattle.poly_texts.specs.Puzzle.{PuzzleValue}
+use Rattle.poly_texts.specs.Puzzle.{PuzzleValue, pieces_of}
 use Rattle.cover_problem.specs.declared.limits.TheConstants.{MOST_OPTIONS, MOST_ENTRIES}
 use Rattle.cover_problem.specs.Problem.{is_small}
 use Rattle.poly_place.specs.Packings.{ChoiceValue, choices_of_piece, every_choice, things, packing_problem}
@@ -36,7 +36,7 @@ module _ (p : PuzzleValue) (pieces : List (ℕ × List Coordinates)) (k items op
   counted_next few low = record { count = sym long; sum = exact low ∙ sym whole; few = few; low = low }
 
   -- past a limit the problem of the puzzle is too large
-  pub counted_past : pieces ≡ p.pieces → items ≡ length (things p) → items ≤ 65535 → (entries + entries_of p cs ≤ MOST_ENTRIES → e ≤ MOST_ENTRIES)
+  pub counted_past : pieces ≡ pieces_of p → items ≡ length (things p) → items ≤ 65535 → (entries + entries_of p cs ≤ MOST_ENTRIES → e ≤ MOST_ENTRIES)
       → (MOST_OPTIONS < options + n) ⊎ (MOST_ENTRIES < e) → false ≡ is_small (packing_problem p)
   counted_past same all few within past =
       sym (large_by_choices p (omega (arith, all, few)) (ap (λ (m : ℕ). has_room p m (every_choice p)) (sym all) ∙ no_room_before p items pieces (k + 1) same no_room))

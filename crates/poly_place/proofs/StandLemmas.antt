@@ -5,7 +5,7 @@ use Rattle.std.proofs.lemmas.List.{length-append, length-map}
 use Rattle.poly_cells.specs.Coordinates.{Coordinates}
 use Rattle.poly_cells.specs.Sets.{IsIn}
 use Rattle.poly_cells.proofs.SetLemmas.{in_append_right, in_map, in_from_map, in_at}
-use Rattle.poly_texts.specs.Puzzle.{PuzzleValue, IsPuzzle, has_name, is_needed}
+use Rattle.poly_texts.specs.Puzzle.{PuzzleValue, IsPuzzle, has_name, is_needed, maybe_names, equal_names}
 use Rattle.shared_words.specs.Lists.{has}
 use Rattle.cover_problem.specs.Problem.{option_at}
 use Rattle.poly_place.specs.Packings.{ChoiceValue, choice_with, is_any, IsUsed, first_cell, tree_levels, leaf_of, place_of, IsPlaced, every_choice, leavings, leaving_option, laying_count, option_count, leaving_at, LeavesOut, Thing, a_piece, a_cell, needed_things, thing_item, things_of, option_of, packing_problem, choice_at, SetStandsFor}
@@ -17,6 +17,7 @@ use Rattle.poly_place.proofs.EqualLemmas.{group_is, distinct_group}
 use Rattle.poly_place.proofs.LeavingsLemmas.{one_split, IsLeaving, leaving_is, leavings_distinct, laying_is, leaving_within, leaving_option_is, leaving_at_in}
 use Rattle.poly_place.proofs.PlaceLemmas.{place_within, first_in, enough_levels}
 use Rattle.poly_cells.proofs.ImageLemmas.{in_from_some, some_from_in}
+use Rattle.poly_texts.proofs.EqualLemmas.{equal_new}
 use Rattle.poly_place.proofs.PlacedLemmas.{HasShapes, choices_distinct}
 
 -- ---- options stand for choices
@@ -111,7 +112,7 @@ in_cell p c v i = elim (part_of p c (a_cell v) i) [
 
 -- a required piece is not one that may be used any number of times
 pub needed_single : (p : PuzzleValue) (name : ℕ) → is_needed p name ≡ true → is_any p name ≡ false
-needed_single p name n = not-true (is_any p name) (and_parts (not (has_name p.maybe_pieces name)) (not (is_any p name)) n).1
+needed_single p name n = not-true (is_any p name) (and_parts (not (has_name (maybe_names p) name)) (not (is_any p name)) n).1
 
 -- ---- the leaf of a placement
 
@@ -158,11 +159,11 @@ pub lays_what : (p : PuzzleValue) (set : ℕ → Bool) (chosen : ChoiceValue →
 lays_what p set chosen s = record { within = s.within; forth = s.forth; back = s.back }
 
 module _ (p : PuzzleValue) (z : IsPuzzle p) where
-  distinct_equal : IsDistinct (all_of p.equal)
-  distinct_equal = distinct_names (all_of p.equal) z.equal_new
+  distinct_equal : IsDistinct (all_of (equal_names p))
+  distinct_equal = distinct_names (all_of (equal_names p)) (equal_new p z)
 
-  pub same_group : (g k : List ℕ) (n : ℕ) → IsIn g p.equal → IsIn k p.equal → IsIn n g → IsIn n k → g ≡ k
-  same_group g k n i j a b = sym (group_is p.equal g n distinct_equal i a) ∙ group_is p.equal k n distinct_equal j b
+  pub same_group : (g k : List ℕ) (n : ℕ) → IsIn g (equal_names p) → IsIn k (equal_names p) → IsIn n g → IsIn n k → g ≡ k
+  same_group g k n i j a b = sym (group_is (equal_names p) g n distinct_equal i a) ∙ group_is (equal_names p) k n distinct_equal j b
 
   pub leaving_of : (o : ℕ) → laying_count p < o → o ≤ option_count p → IsLeaving p (leaving_at p o)
   leaving_of o past within = leaving_is p (leaving_at p o) (leaving_at_in p o past within)
@@ -175,7 +176,7 @@ module _ (p : PuzzleValue) (z : IsPuzzle p) where
       ∙ m.parted.whole
 
   pub distinct_parts : (a : List ℕ × List ℕ) → IsLeaving p a → IsDistinct (a.0 ++ a.1)
-  distinct_parts a l = subst IsDistinct l.parted.whole (distinct_group p.equal l.group distinct_equal l.there)
+  distinct_parts a l = subst IsDistinct l.parted.whole (distinct_group (equal_names p) l.group distinct_equal l.there)
 
   -- what is left out of two options with a copy in common is the same, where the same pieces are used
   pub one_leaving : (chosen : ChoiceValue → Bool) (o q n : ℕ) → laying_count p < o → o ≤ option_count p → laying_count p < q → q ≤ option_count p → LeavesOut chosen (leaving_at p o) → LeavesOut chosen (leaving_at p q)

@@ -5,6 +5,7 @@ use Rattle.std.proofs.lemmas.List.Sums.{sum_by-cons}
 use Rattle.poly_cells.specs.Sets.{IsIn}
 use Rattle.poly_cells.proofs.SetLemmas.{in_append_left, in_append_right, in_append_cases, in_map, in_from_map}
 use Rattle.poly_cells.proofs.MemberLemmas.{same_function}
+use Rattle.poly_texts.specs.Kinds.{KindValue}
 use Rattle.poly_texts.specs.Puzzle.{PuzzleValue, IsPuzzle, has_name}
 use Rattle.shared_words.specs.Lists.{has}
 use Rattle.poly_place.specs.Packings.{ChoiceValue, IsPacking, SetStandsFor}
@@ -119,11 +120,7 @@ same_fixed : (p : PuzzleValue) (gone more : List ℕ) → HaveSameNames gone mor
 same_fixed p gone more h = ap (λ (test : ℕ → Bool). without test) (same_function (has_name gone) (has_name more) h)
   where
     without : (ℕ → Bool) → PuzzleValue
-    without test = record p {
-      pieces = filter (λ q. not (test (q.0))) p.pieces;
-      equal = map (filter (λ n. not (test n))) p.equal;
-      spare = [];
-    }
+    without test = record p { kinds = map (λ (k : KindValue). record k { symbols = filter (λ n. not (test n)) k.symbols; spare = 0 }) p.kinds }
 
 all_together : (p : PuzzleValue) (z : IsPuzzle p) (count : List ℕ → ℕ) (h : AreCounted p count (spare_ends p)) → AreAllPackings p (together p count (spare_ends p) h)
 all_together p z count h =

@@ -7,10 +7,11 @@ use Rattle.poly_cells.proofs.CoordinateLemmas.{is_same_Decides, coordinates_tota
 use Rattle.poly_cells.proofs.SetLemmas.{in_append_left, in_append_right, in_append_cases, in_map, in_from_map, in_at}
 use Rattle.poly_cells.proofs.CellTestLemmas.{in_from_has, has_from_in}
 use Rattle.poly_cells.specs.CellTests.{has_cell}
-use Rattle.poly_texts.specs.Puzzle.{PuzzleValue, IsPuzzle, names_of, has_name, is_needed}
+use Rattle.poly_texts.specs.Puzzle.{PuzzleValue, IsPuzzle, names_of, has_name, is_needed, pieces_of, maybe_names}
 use Rattle.shared_words.specs.Lists.{has}
 use Rattle.poly_place.specs.Packings.{ChoiceValue, is_any, must_fill, IsPlaced, Thing, a_piece, a_cell, a_node, same_thing, needed_things, other_things, things, index_among, thing_item, things_of, pairs, tree_levels, nodes, nodes_by, leaf_of, given}
 use Rattle.poly_cells.proofs.MemberLemmas.{in_flat_map, in_from_flat_map, in_to_range, in_from_filter, in_filter, some_passes, passes_some, first_at, first_within}
+use Rattle.poly_texts.proofs.NameLemmas.{pieces_new}
 use Rattle.poly_place.proofs.DistinctLemmas.{in_from_name, IsDistinct, distinct_append, distinct_filter, distinct_map, distinct_rising, distinct_names, distinct_at}
 use Rattle.std.proofs.lemmas.List.Sums.{passes_at_first}
 use Rattle.std.proofs.lemmas.List.Folds.{prefix_len-append}
@@ -87,28 +88,28 @@ needed_in p t i = in_append_left t (needed_things p) (other_things p) i
 
 -- ---- the required things
 
-pub needed_piece : (p : PuzzleValue) (name : ℕ) → IsIn name (names_of p.pieces) → is_needed p name ≡ true → IsIn (a_piece name) (needed_things p)
+pub needed_piece : (p : PuzzleValue) (name : ℕ) → IsIn name (names_of (pieces_of p)) → is_needed p name ≡ true → IsIn (a_piece name) (needed_things p)
 needed_piece p name i h =
-    in_append_left (a_piece name) (map a_piece (filter (is_needed p) (names_of p.pieces))) (map a_cell (filter (must_fill p) p.region))
-    (in_map a_piece name (filter (is_needed p) (names_of p.pieces)) (in_filter (is_needed p) name (names_of p.pieces) i h))
+    in_append_left (a_piece name) (map a_piece (filter (is_needed p) (names_of (pieces_of p)))) (map a_cell (filter (must_fill p) p.region))
+    (in_map a_piece name (filter (is_needed p) (names_of (pieces_of p))) (in_filter (is_needed p) name (names_of (pieces_of p)) i h))
 
 pub needed_cell : (p : PuzzleValue) (v : Coordinates) → must_fill p v ≡ true → IsIn (a_cell v) (needed_things p)
 needed_cell p v h =
-    in_append_right (a_cell v) (map a_piece (filter (is_needed p) (names_of p.pieces))) (map a_cell (filter (must_fill p) p.region))
+    in_append_right (a_cell v) (map a_piece (filter (is_needed p) (names_of (pieces_of p)))) (map a_cell (filter (must_fill p) p.region))
     (in_map a_cell v (filter (must_fill p) p.region)
     (in_filter (must_fill p) v p.region (in_from_has p.region v (and_parts (has_cell p.region v) (not (has_cell p.maybe_cells v)) h).0) h))
 
 -- a required thing is a required piece, or a cell that has to be filled
 abbrev pub IsNeeded : PuzzleValue → Thing → Type 0
 IsNeeded p t =
-    ((name : ℕ) × (t ≡ a_piece name) × IsIn name (names_of p.pieces) × (is_needed p name ≡ true)) ⊎ ((v : Coordinates) × (t ≡ a_cell v) × (must_fill p v ≡ true))
+    ((name : ℕ) × (t ≡ a_piece name) × IsIn name (names_of (pieces_of p)) × (is_needed p name ≡ true)) ⊎ ((v : Coordinates) × (t ≡ a_cell v) × (must_fill p v ≡ true))
 
 pub needed_cases : (p : PuzzleValue) (t : Thing) → IsIn t (needed_things p) → IsNeeded p t
 needed_cases p t i =
-    elim (in_append_cases t (map a_piece (filter (is_needed p) (names_of p.pieces))) (map a_cell (filter (must_fill p) p.region)) i) [
+    elim (in_append_cases t (map a_piece (filter (is_needed p) (names_of (pieces_of p)))) (map a_cell (filter (must_fill p) p.region)) i) [
       | inl l ↦
-          let name = in_from_map a_piece t (filter (is_needed p) (names_of p.pieces)) l in
-          let there = in_from_filter (is_needed p) name.0 (names_of p.pieces) name.1 in
+          let name = in_from_map a_piece t (filter (is_needed p) (names_of (pieces_of p))) l in
+          let there = in_from_filter (is_needed p) name.0 (names_of (pieces_of p)) name.1 in
           inl (name.0, name.2, there.0, there.1)
       | inr r ↦
           let v = in_from_map a_cell t (filter (must_fill p) p.region) r in
@@ -118,11 +119,11 @@ needed_cases p t i =
 
 pub needed_distinct : (p : PuzzleValue) → IsPuzzle p → IsDistinct (needed_things p)
 needed_distinct p z =
-    distinct_append (map a_piece (filter (is_needed p) (names_of p.pieces))) (map a_cell (filter (must_fill p) p.region))
-    (distinct_map a_piece (filter (is_needed p) (names_of p.pieces)) (λ a b e. cc) (distinct_filter (is_needed p) (names_of p.pieces) (distinct_names (names_of p.pieces) z.new)))
+    distinct_append (map a_piece (filter (is_needed p) (names_of (pieces_of p)))) (map a_cell (filter (must_fill p) p.region))
+    (distinct_map a_piece (filter (is_needed p) (names_of (pieces_of p))) (λ a b e. cc) (distinct_filter (is_needed p) (names_of (pieces_of p)) (distinct_names (names_of (pieces_of p)) (pieces_new p z))))
     (distinct_map a_cell (filter (must_fill p) p.region) (λ a b e. cc) (distinct_filter (must_fill p) p.region (distinct_rising coordinates_total p.region z.rises)))
     (λ t i j.
-    let name = in_from_map a_piece t (filter (is_needed p) (names_of p.pieces)) i in
+    let name = in_from_map a_piece t (filter (is_needed p) (names_of (pieces_of p))) i in
     let v = in_from_map a_cell t (filter (must_fill p) p.region) j in
     let m = name.2 in
     let n = v.2 in
@@ -143,17 +144,17 @@ needed_at p z i some within =
 
 -- ---- the parts of a choice are things of the puzzle
 
-pub piece_in : (p : PuzzleValue) (name : ℕ) → IsIn name (names_of p.pieces) → is_any p name ≡ false → IsIn (a_piece name) (things p)
+pub piece_in : (p : PuzzleValue) (name : ℕ) → IsIn name (names_of (pieces_of p)) → is_any p name ≡ false → IsIn (a_piece name) (things p)
 piece_in p name i single =
-    elim (cases_Bool (has_name p.maybe_pieces name)) [
+    elim (cases_Bool (has_name (maybe_names p) name)) [
       | inl h ↦
           in_append_right (a_piece name) (needed_things p) (other_things p)
-          (in_append_left (a_piece name) (map a_piece p.maybe_pieces) (map a_cell p.maybe_cells ++ flat_map (nodes p) (pairs p))
-          (in_map a_piece name p.maybe_pieces (in_from_name p.maybe_pieces name h)))
+          (in_append_left (a_piece name) (map a_piece (maybe_names p)) (map a_cell p.maybe_cells ++ flat_map (nodes p) (pairs p))
+          (in_map a_piece name (maybe_names p) (in_from_name (maybe_names p) name h)))
       | inr h ↦
           needed_in p (a_piece name)
           (needed_piece p name i
-          (and_from (not (has_name p.maybe_pieces name)) (not (is_any p name)) (not_from_false (has_name p.maybe_pieces name) h) (not_from_false (is_any p name) single)))
+          (and_from (not (has_name (maybe_names p) name)) (not (is_any p name)) (not_from_false (has_name (maybe_names p) name) h) (not_from_false (is_any p name) single)))
     ]
 
 pub cell_in : (p : PuzzleValue) (v : Coordinates) → IsIn v p.region → IsIn (a_cell v) (things p)
@@ -161,7 +162,7 @@ cell_in p v i =
     elim (cases_Bool (has_cell p.maybe_cells v)) [
       | inl h ↦
           in_append_right (a_cell v) (needed_things p) (other_things p)
-          (in_append_right (a_cell v) (map a_piece p.maybe_pieces) (map a_cell p.maybe_cells ++ flat_map (nodes p) (pairs p))
+          (in_append_right (a_cell v) (map a_piece (maybe_names p)) (map a_cell p.maybe_cells ++ flat_map (nodes p) (pairs p))
           (in_append_left (a_cell v) (map a_cell p.maybe_cells) (flat_map (nodes p) (pairs p)) (in_map a_cell v p.maybe_cells (in_from_has p.maybe_cells v h))))
       | inr h ↦
           needed_in p (a_cell v)
@@ -171,7 +172,7 @@ cell_in p v i =
 pub node_in : (p : PuzzleValue) (pair : ℕ × ℕ) (h : ℕ) → IsIn pair (pairs p) → 0 < h → h < 2 ^ tree_levels p → IsIn (a_node (pair.0) h) (things p)
 node_in p pair h i some within =
     in_append_right (a_node (pair.0) h) (needed_things p) (other_things p)
-    (in_append_right (a_node (pair.0) h) (map a_piece p.maybe_pieces) (map a_cell p.maybe_cells ++ flat_map (nodes p) (pairs p))
+    (in_append_right (a_node (pair.0) h) (map a_piece (maybe_names p)) (map a_cell p.maybe_cells ++ flat_map (nodes p) (pairs p))
     (in_append_right (a_node (pair.0) h) (map a_cell p.maybe_cells) (flat_map (nodes p) (pairs p))
     (in_flat_map (nodes p) (a_node (pair.0) h) pair (pairs p) i
     (in_map (a_node (pair.0)) h (range_with_len 1 (2 ^ tree_levels p - 1)) (in_to_range h 1 (2 ^ tree_levels p - 1) some (omega arith))))))
@@ -252,7 +253,7 @@ left_part p c pair h i e j =
 
 pub parts_in : (p : PuzzleValue) (c : ChoiceValue) → IsPlaced p c → IsBelow (tree_levels p) (leaf_of p c) → (t : Thing) → IsIn t (things_of p c) → IsIn t (things p)
 parts_in p c h b t i = elim (part_of p c t i) [
-  | the_piece single e ↦ subst (λ (u : Thing). IsIn u (things p)) (sym e) (piece_in p c.name (in_map (λ (n : ℕ × List Coordinates). n.0) (c.name, h.piece) p.pieces h.named) single)
+  | the_piece single e ↦ subst (λ (u : Thing). IsIn u (things p)) (sym e) (piece_in p c.name (in_map (λ (n : ℕ × List Coordinates). n.0) (c.name, h.piece) (pieces_of p) h.named) single)
   | the_cell v j e ↦ subst (λ (u : Thing). IsIn u (things p)) (sym e) (cell_in p v (h.placed.inside v j))
   | on_right pair k j n r e ↦ subst (λ (u : Thing). IsIn u (things p)) (sym e) (node_in p pair k j (right_some (tree_levels p) (leaf_of p c) k b r) (right_above (tree_levels p) (leaf_of p c) k b r))
   | on_left pair k j n l e ↦ subst (λ (u : Thing). IsIn u (things p)) (sym e) (node_in p pair k j (left_some (tree_levels p) (leaf_of p c) k b l) (left_above (tree_levels p) (leaf_of p c) k b l))

@@ -13,7 +13,8 @@ use Rattle.poly_cells.proofs.CellTestLemmas.{has_from_in}
 use Rattle.poly_cells.proofs.CoordinateLemmas.{coordinates_total}
 use Rattle.poly_cells.proofs.MemberLemmas.{in_filter, in_from_filter, in_flat_map, in_from_flat_map, some_passes, passes_some}
 use Rattle.poly_cells.proofs.SetLemmas.{in_map}
-use Rattle.poly_texts.specs.Puzzle.{PuzzleValue, IsPuzzle, names_of, has_name, is_needed}
+use Rattle.poly_texts.specs.Puzzle.{PuzzleValue, IsPuzzle, names_of, has_name, is_needed, pieces_of}
+use Rattle.poly_texts.proofs.NameLemmas.{pieces_new}
 use Rattle.poly_place.specs.Packings.{ChoiceValue, is_any, must_fill, IsPlaced, IsPacking}
 use Rattle.poly_place.specs.Chosen.{is_among, same_choice}
 use Rattle.poly_place.specs.Volume.{IsForced, other_pieces, other_cells, copies_in, are_once, VolumeForces}
@@ -60,8 +61,8 @@ module _ (p : PuzzleValue) (name : ℕ) (piece : List Coordinates) (cs : List Ch
   shapes : HasShapes p
   shapes = has_shapes p z
 
-  apart : IsDistinct (names_of p.pieces)
-  apart = distinct_names (names_of p.pieces) z.new
+  apart : IsDistinct (names_of (pieces_of p))
+  apart = distinct_names (names_of (pieces_of p)) (pieces_new p z)
 
   each_once : IsDistinct cs
   each_once = distinct_once cs once
@@ -70,10 +71,10 @@ module _ (p : PuzzleValue) (name : ℕ) (piece : List Coordinates) (cs : List Ch
   placed c i = h.placed c (among cs c i)
 
   -- a placement has as many cells as its piece
-  sized : (c : ChoiceValue) (i : IsIn c cs) → (q : ℕ × List Coordinates) → IsIn q p.pieces → q.0 ≡ c.name → length c.cells ≡ length (q.1)
+  sized : (c : ChoiceValue) (i : IsIn c cs) → (q : ℕ × List Coordinates) → IsIn q (pieces_of p) → q.0 ≡ c.name → length c.cells ≡ length (q.1)
   sized c i q there e =
       let at = placed c i in
-      let same = one_piece p.pieces apart (c.name, at.piece) q at.named there (sym e) in
+      let same = one_piece (pieces_of p) apart (c.name, at.piece) q at.named there (sym e) in
       placed_size p shapes c at ∙ ap (λ (r : ℕ × List Coordinates). length (r.1)) same
 
   -- the cells of all placements are those of the region
@@ -103,7 +104,7 @@ module _ (p : PuzzleValue) (name : ℕ) (piece : List Coordinates) (cs : List Ch
   -- a piece of another name and its placement
   record Goes (c : ChoiceValue) (q : ℕ × List Coordinates) : Type 0 where
     there : IsIn c cs
-    known : IsIn q p.pieces
+    known : IsIn q (pieces_of p)
     same : q.0 ≡ c.name
     apart : not (c.name == name) ≡ true
 
@@ -117,18 +118,18 @@ module _ (p : PuzzleValue) (name : ℕ) (piece : List Coordinates) (cs : List Ch
       (λ c i.
       let k = in_from_filter other c cs i in
       let at = placed c k.0 in
-      ((c.name, at.piece), in_filter (λ (q : ℕ × List Coordinates). not (q.0 == name)) (c.name, at.piece) p.pieces at.named k.1, record { there = k.0; known = at.named; same = refl; apart = k.1 }))
+      ((c.name, at.piece), in_filter (λ (q : ℕ × List Coordinates). not (q.0 == name)) (c.name, at.piece) (pieces_of p) at.named k.1, record { there = k.0; known = at.named; same = refl; apart = k.1 }))
 
   others_used : other_cells p name ≤ sum_by (λ c. length c.cells) (filter other cs)
   unfolding other
   others_used =
       sum_below (λ (q : ℕ × List Coordinates) (c : ChoiceValue). Goes c q) (λ (q : ℕ × List Coordinates). length (q.1)) (λ (c : ChoiceValue). length c.cells)
-      (λ a b c g k. one_piece p.pieces apart a b g.known k.known (g.same ∙ sym k.same))
+      (λ a b c g k. one_piece (pieces_of p) apart a b g.known k.known (g.same ∙ sym k.same))
       (λ q c g. sym (sized c g.there q g.known g.same))
-      (other_pieces p name) (filter other cs) (distinct_filter (λ (q : ℕ × List Coordinates). not (q.0 == name)) p.pieces (distinct_pieces p.pieces apart))
+      (other_pieces p name) (filter other cs) (distinct_filter (λ (q : ℕ × List Coordinates). not (q.0 == name)) (pieces_of p) (distinct_pieces (pieces_of p) apart))
       (λ q i.
-      let k = in_from_filter (λ (r : ℕ × List Coordinates). not (r.0 == name)) q p.pieces i in
-      let c = h.used (q.0) (in_map (λ (r : ℕ × List Coordinates). r.0) q p.pieces k.0) (needs (q.0) k.1) (ap (λ (ns : List ℕ). has_name ns (q.0)) f.sure) in
+      let k = in_from_filter (λ (r : ℕ × List Coordinates). not (r.0 == name)) q (pieces_of p) i in
+      let c = h.used (q.0) (in_map (λ (r : ℕ × List Coordinates). r.0) q (pieces_of p) k.0) (needs (q.0) k.1) (ap (λ (ns : List ℕ). has_name ns (q.0)) f.sure) in
       let there = from_among cs c.0 c.1 in
       let far = subst (λ (n : ℕ). not (n == name) ≡ true) (sym c.2) k.1 in
       (c.0, in_filter other c.0 cs there far, record { there = there; known = k.0; same = sym c.2; apart = far }))

@@ -3,7 +3,7 @@ use Rattle.std.specs.Prelude.{◌≡◌, ℕ, ◌++◌, Result, IfOk, OnOk, List
 use Rattle.std.specs.String.{string_bytes}
 use Rattle.std.specs.declared.alloc.Global.{Global}
 use Rattle.std.specs.Global.{Vec}
-use Rattle.poly_texts.specs.Lists.{lists_of}
+use Rattle.poly_place.specs.Lists.{lists_of}
 
 -- the call returns a vector of vectors of these items, unless it has an error
 abbrev pub ReturnsLists : {X E : Type 0} → Result (Vec (Vec X)) E → List (List X) → Type 0

@@ -9,7 +9,7 @@ use Rattle.std.specs.Ordering.{is_eq, nat_cmp}
 use Rattle.shared_words.specs.Lists.{has}
 use Rattle.poly_cells.specs.Coordinates.{Coordinates}
 use Rattle.poly_cells.specs.Sets.{in_order}
-use Rattle.poly_texts.specs.Puzzle.{PuzzleValue, names_of, has_name}
+use Rattle.poly_texts.specs.Puzzle.{PuzzleValue, names_of, has_name, pieces_of, copy_symbols}
 use Rattle.poly_place.specs.Placements.{cells_cmp}
 use Rattle.poly_place.specs.Packings.{ChoiceValue, SetStandsFor, choice_with, choice_at, laying_count}
 
@@ -39,7 +39,7 @@ names_in cs = map (λ c. c.name) cs
 
 -- the names of the choices are those of the pieces that have one, in the order of the pieces
 abbrev pub AreInPieceOrder : PuzzleValue → List ChoiceValue → Type 0
-AreInPieceOrder p cs = names_in cs ≡ filter (has_name (names_in cs)) (names_of p.pieces)
+AreInPieceOrder p cs = names_in cs ≡ filter (has_name (names_in cs)) (names_of (pieces_of p))
 
 -- how many come before the first x
 abbrev pub place_in : List ℕ → ℕ → ℕ
@@ -48,7 +48,7 @@ place_in (y ∷ ys) x = cond (y == x) 0 (1 + place_in ys x)
 
 -- no choice of a piece comes before one of an earlier piece
 abbrev pub ComeByPiece : PuzzleValue → List ChoiceValue → Type 0
-ComeByPiece p cs = IsNonDecreasingBy (λ c. place_in (names_of p.pieces) c.name) cs
+ComeByPiece p cs = IsNonDecreasingBy (λ c. place_in (names_of (pieces_of p)) c.name) cs
 
 -- the choice numbered o, from 1 on
 abbrev pub choice_numbered : List ChoiceValue → ℕ → ChoiceValue
@@ -72,7 +72,7 @@ chosen_by p path = map (choice_at p) (laying p path)
 
 -- the packing for which these options stand
 abbrev pub packing_value : PuzzleValue → List ℕ → PackingValue
-packing_value p path = record { region = p.region; maybe_cells = p.maybe_cells; placements = chosen_by p path; symbols = p.symbols }
+packing_value p path = record { region = p.region; maybe_cells = p.maybe_cells; placements = chosen_by p path; symbols = (copy_symbols p) }
 
 -- the packings for which lists of options stand
 abbrev pub packing_values : PuzzleValue → List (List ℕ) → List PackingValue

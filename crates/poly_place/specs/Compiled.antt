@@ -3,7 +3,7 @@ use Rattle.std.specs.Prelude.{◌≡◌, ℕ, ◌+◌, ◌^◌, ◌≤◌, ◌==
 use Rattle.std.specs.List.{list_all}
 use Rattle.poly_cells.specs.Coordinates.{Coordinates, IsInGrid}
 use Rattle.poly_cells.specs.Sets.{IsIn}
-use Rattle.poly_texts.specs.Puzzle.{PuzzleValue, names_of, is_needed, is_spare}
+use Rattle.poly_texts.specs.Puzzle.{PuzzleValue, names_of, is_needed, is_spare, pieces_of, maybe_names, equal_names}
 use Rattle.cover_problem.specs.declared.limits.TheConstants.{MOST_ITEMS, MOST_OPTIONS, MOST_ENTRIES}
 use Rattle.poly_place.specs.Packings.{ChoiceValue, every_choice, things, must_fill, a_cell, a_piece, thing_item, place_of, pairs, tree_levels, needed_things, things_of, given, is_any, nodes, nodes_by, thing_name}
 use Rattle.poly_place.specs.Turns.{from_right, from_left}
@@ -13,7 +13,7 @@ use Rattle.poly_place.specs.Tables.{grid_cells, bit_index}
 
 -- the names of the pieces that may not be left out
 abbrev pub needed_names : PuzzleValue → List ℕ
-needed_names p = filter (is_needed p) (names_of p.pieces)
+needed_names p = filter (is_needed p) (names_of (pieces_of p))
 
 -- the cells that have to be filled
 abbrev pub filled_cells : PuzzleValue → List Coordinates
@@ -40,7 +40,7 @@ pub record ArePlaces (p : PuzzleValue) (places : List ℕ) : Type 0 where
 
 -- how many items come before the nodes
 abbrev pub before_nodes : PuzzleValue → ℕ
-before_nodes p = length (needed_things p) + length p.maybe_pieces + length p.maybe_cells
+before_nodes p = length (needed_things p) + length (maybe_names p) + length p.maybe_cells
 
 -- the table has, for each cell of the region, one more than how many of the region's cells come before it, and 0 for each other cell
 pub record ArePlacesOf (region : List Coordinates) (places : List ℕ) : Type 0 where
@@ -103,7 +103,7 @@ left_from test (n ∷ ns) = cond (list_all test (n ∷ ns)) ((n ∷ ns) ∷ []) 
 
 -- the copies that an option leaves out, of each that leaves out some
 abbrev pub left_out : PuzzleValue → List (List ℕ)
-left_out p = flat_map (left_from (is_spare p)) p.equal
+left_out p = flat_map (left_from (is_spare p)) (equal_names p)
 
 -- the items of these pieces
 abbrev pub left_items : PuzzleValue → List ℕ → List ℕ

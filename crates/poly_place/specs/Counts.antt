@@ -4,7 +4,7 @@
 -- (proofs/CountExamples.antt). So the puzzle has as many packings as four puzzles have together.
 use Rattle.std.specs.Prelude.{◌≡◌, ◌↔◌, ℕ, Bool, List, [], ◌∷◌, ◌++◌, ⊤, map, flat_map, length, sum_by}
 use Rattle.poly_cells.specs.Sets.{IsIn}
-use Rattle.poly_texts.specs.Puzzle.{PuzzleValue, IsPuzzle, has_name, is_spare}
+use Rattle.poly_texts.specs.Puzzle.{PuzzleValue, IsPuzzle, has_name, is_spare, equal_names}
 use Rattle.cover_problem.specs.ExactCover.{IsExactCover}
 use Rattle.shared_words.specs.Lists.{has}
 use Rattle.poly_place.specs.Packings.{ChoiceValue, IsPacking, packing_problem}
@@ -24,12 +24,16 @@ NoTwoAre {P} Like (p ∷ ps) = ((q : P) → IsIn q ps → Like p q → ⊥) × N
 abbrev pub HaveSameChoices : List ChoiceValue → List ChoiceValue → Type 0
 HaveSameChoices cs ds = (c : ChoiceValue) → is_among cs c ≡ is_among ds c
 
--- the lists of choices are the packings of the puzzle, each once: as tests on choices
-pub record AreAllPackings (p : PuzzleValue) (lists : List (List ChoiceValue)) : Type 0 where
-  pub sound : (cs : List ChoiceValue) → IsIn cs lists → IsPacking p (is_among cs)
-  pub complete : (chosen : ChoiceValue → Bool) → IsPacking p chosen
+-- the lists of choices are all for which it is so, each once: as tests on choices
+pub record AreAll (IsSo : (ChoiceValue → Bool) → Type 0) (lists : List (List ChoiceValue)) : Type 0 where
+  pub sound : (cs : List ChoiceValue) → IsIn cs lists → IsSo (is_among cs)
+  pub complete : (chosen : ChoiceValue → Bool) → IsSo chosen
       → (cs : List ChoiceValue) × IsIn cs lists × ((c : ChoiceValue) → is_among cs c ≡ chosen c)
   pub once : NoTwoAre HaveSameChoices lists
+
+-- they are the packings of the puzzle
+abbrev pub AreAllPackings : PuzzleValue → List (List ChoiceValue) → Type 0
+AreAllPackings p lists = AreAll (IsPacking p) lists
 
 -- the puzzle has n packings
 abbrev pub IsPackingCount : PuzzleValue → ℕ → Type 0
@@ -59,7 +63,7 @@ ends_of_all p (group ∷ groups) = flat_map (λ end. map (λ more. end ++ more) 
 
 -- the ways to leave out spare copies
 abbrev pub spare_ends : PuzzleValue → List (List ℕ)
-spare_ends p = ends_of_all p p.equal
+spare_ends p = ends_of_all p (equal_names p)
 
 -- the lists are the ways to leave out spare copies, each once: as sets of names
 pub record AreAllEnds (p : PuzzleValue) (ways : List (List ℕ)) : Type 0 where

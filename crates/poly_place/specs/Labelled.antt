@@ -10,22 +10,22 @@ use Rattle.poly_cells.specs.Points.{Point}
 use Rattle.poly_cells.specs.Sets.{IsIn}
 use Rattle.poly_cells.specs.Images.{IsImage}
 use Rattle.poly_cells.specs.CellTests.{has_cell}
-use Rattle.poly_texts.specs.Puzzle.{PuzzleValue, IsPuzzle}
+use Rattle.poly_texts.specs.Puzzle.{PuzzleValue, IsPuzzle, pieces_of, copy_symbols}
 use Rattle.poly_place.specs.declared.alike.Group.{Group}
-use Rattle.poly_place.specs.Packings.{ChoiceValue, IsPacking}
+use Rattle.poly_place.specs.Packings.{ChoiceValue}
 use Rattle.poly_place.specs.Chosen.{PackingValue, is_among}
-use Rattle.poly_place.specs.Swaps.{told_apart, AreEqual, IsSwap}
+use Rattle.poly_place.specs.Swaps.{IsApart, AreEqual, IsSwap}
 use Rattle.poly_place.specs.Classes.{is_member, IsSent, AreAlike, IsClassCount}
-use Rattle.poly_place.specs.Counts.{AreAllPackings}
+use Rattle.poly_place.specs.Counts.{AreAll, AreAllPackings}
 
 -- the packing of the puzzle that these choices are
 abbrev pub packing_with : PuzzleValue → List ChoiceValue → PackingValue
-packing_with p cs = record { region = p.region; maybe_cells = p.maybe_cells; placements = cs; symbols = p.symbols }
+packing_with p cs = record { region = p.region; maybe_cells = p.maybe_cells; placements = cs; symbols = (copy_symbols p) }
 
 -- the first packing is like one in which the pieces are told apart, and equal pieces of that change places so that it is the second
 pub record ThenSwaps (p : PuzzleValue) (Like : PackingValue → PackingValue → Type 0) (a b : PackingValue) : Type 0 where
   pub between : List ChoiceValue
-  pub packs : IsPacking (told_apart p) (is_among between)
+  pub packs : IsApart p (is_among between)
   pub like : Like a (packing_with p between)
   pub swaps : IsSwap p (is_among between) (is_among b.placements)
 
@@ -50,7 +50,7 @@ pub record AreAlikeByName (group : Group) (a b : PackingValue) : Type 0 where
 -- a symmetry and a translation bring a piece to no piece but itself and those that are equal to it
 abbrev pub OthersDiffer : PuzzleValue → Type 0
 OthersDiffer p =
-    (q r : ℕ × List Coordinates) (n : ℕ) (d : Point) → IsIn q p.pieces → IsIn r p.pieces → n < 48 → IsImage n d (q.1) (r.1)
+    (q r : ℕ × List Coordinates) (n : ℕ) (d : Point) → IsIn q (pieces_of p) → IsIn r (pieces_of p) → n < 48 → IsImage n d (q.1) (r.1)
     → AreEqual p (q.0) (r.0)
 
 -- ---- laws
@@ -60,7 +60,7 @@ OthersDiffer p =
 abbrev pub AlikeThenSwaps : Type 0
 AlikeThenSwaps =
     (p : PuzzleValue) (group : Group) (cs ds : List ChoiceValue) → IsPuzzle p
-    → IsPacking (told_apart p) (is_among cs) → IsPacking (told_apart p) (is_among ds)
+    → IsApart p (is_among cs) → IsApart p (is_among ds)
     → AreAlike group (packing_with p cs) (packing_with p ds)
     ↔ ThenSwaps p (AreAlike group) (packing_with p cs) (packing_with p ds)
 
@@ -69,7 +69,7 @@ AlikeThenSwaps =
 abbrev pub AlikeByNameThenSwaps : Type 0
 AlikeByNameThenSwaps =
     (p : PuzzleValue) (group : Group) (cs ds : List ChoiceValue) → IsPuzzle p → OthersDiffer p
-    → IsPacking (told_apart p) (is_among cs) → IsPacking (told_apart p) (is_among ds)
+    → IsApart p (is_among cs) → IsApart p (is_among ds)
     → AreAlike group (packing_with p cs) (packing_with p ds)
     ↔ ThenSwaps p (AreAlikeByName group) (packing_with p cs) (packing_with p ds)
 
@@ -78,7 +78,7 @@ AlikeByNameThenSwaps =
 abbrev pub ClassesAreLabelled : Type 0
 ClassesAreLabelled =
     (p : PuzzleValue) (group : Group) (packings labelled : List (List ChoiceValue)) → IsPuzzle p
-    → AreAllPackings p packings → AreAllPackings (told_apart p) labelled
+    → AreAllPackings p packings → AreAll (IsApart p) labelled
     → (n : ℕ) → IsClassCount (AreAlike group) (map (packing_with p) packings) n
     ↔ IsClassCount (ThenSwaps p (AreAlike group)) (map (packing_with p) labelled) n
 
@@ -86,6 +86,6 @@ ClassesAreLabelled =
 abbrev pub ClassesAreLabelledByName : Type 0
 ClassesAreLabelledByName =
     (p : PuzzleValue) (group : Group) (packings labelled : List (List ChoiceValue)) → IsPuzzle p → OthersDiffer p
-    → AreAllPackings p packings → AreAllPackings (told_apart p) labelled
+    → AreAllPackings p packings → AreAll (IsApart p) labelled
     → (n : ℕ) → IsClassCount (AreAlike group) (map (packing_with p) packings) n
     ↔ IsClassCount (ThenSwaps p (AreAlikeByName group)) (map (packing_with p) labelled) n

@@ -14,7 +14,7 @@ use Rattle.poly_cells.specs.Coordinates.{Coordinates, coordinates, coordinates_c
 use Rattle.poly_cells.specs.Sets.{IsIn}
 use Rattle.poly_cells.specs.CellTests.{is_same, has_cell}
 use Rattle.poly_cells.specs.CellWords.{cell_word, symbol}
-use Rattle.poly_texts.specs.Puzzle.{PuzzleValue, IsPuzzle, names_of, has_name, is_needed, is_spare}
+use Rattle.poly_texts.specs.Puzzle.{PuzzleValue, IsPuzzle, names_of, has_name, is_needed, is_spare, pieces_of, maybe_names, any_names, mirrored_names, equal_names, spare_names}
 use Rattle.cover_problem.specs.Problem.{ProblemValue, IsProblem, is_small}
 use Rattle.cover_problem.specs.ExactCover.{IsExactCover}
 use Rattle.poly_place.specs.declared.alike.Group.{Group}
@@ -33,11 +33,11 @@ choice_with name cells = record { name = name; cells = cells }
 
 -- the piece may be used any number of times
 abbrev pub is_any : PuzzleValue → ℕ → Bool
-is_any p name = has_name p.any_pieces name
+is_any p name = has_name (any_names p) name
 
 -- the piece is turned by rotations, or also by reflections where it may be reflected
 abbrev pub turning_group : PuzzleValue → ℕ → Group
-turning_group p name = cond (has_name p.mirrored name) Symmetries Rotations
+turning_group p name = cond (has_name (mirrored_names p) name) Symmetries Rotations
 
 -- the symmetries by which the piece may be turned
 abbrev pub turns_of : PuzzleValue → ℕ → List ℕ
@@ -51,7 +51,7 @@ neighbours (m ∷ n ∷ ns) = (m, n) ∷ neighbours (n ∷ ns)
 
 -- each two equal pieces of which the second one follows the first
 abbrev pub pairs : PuzzleValue → List (ℕ × ℕ)
-pairs p = flat_map neighbours p.equal
+pairs p = flat_map neighbours (equal_names p)
 
 -- the least of the cells
 abbrev pub first_cell : List Coordinates → Coordinates
@@ -65,7 +65,7 @@ must_fill p v = has_cell p.region v && not (has_cell p.maybe_cells v)
 -- the cells are a placement of the piece, which is required or fills one of the cells that have to be filled
 pub record IsPlaced (p : PuzzleValue) (c : ChoiceValue) : Type 0 where
   pub piece : List Coordinates
-  pub named : IsIn (c.name, piece) p.pieces
+  pub named : IsIn (c.name, piece) (pieces_of p)
   pub rises : IsStrictlySortedBy coordinates_cmp c.cells
   pub placed : IsPlacement (turns_of p c.name) piece p.region c.cells
   pub useful : (is_needed p c.name ≡ true) ⊎ ((v : Coordinates) × IsIn v c.cells × (must_fill p v ≡ true))
@@ -76,16 +76,20 @@ IsUsed chosen name = (c : ChoiceValue) × (chosen c ≡ true) × (c.name ≡ nam
 
 -- some pieces, the required ones among them, each in one placement (those that may be used any number of times in some), which fill
 -- each required cell and meet nowhere; of two equal pieces the one that comes first has the lesser of their least cells, and is used
--- where the other one is; given as a test on choices
-pub record IsPacking (p : PuzzleValue) (chosen : ChoiceValue → Bool) : Type 0 where
+-- where the other one is, by pairs of equal pieces; given as a test on choices
+pub record IsPackingBy (p : PuzzleValue) (order : List (ℕ × ℕ)) (chosen : ChoiceValue → Bool) : Type 0 where
   pub placed : (c : ChoiceValue) → chosen c ≡ true → IsPlaced p c
   pub once : (c d : ChoiceValue) → chosen c ≡ true → chosen d ≡ true → is_any p c.name ≡ false → c.name ≡ d.name → c ≡ d
-  pub used : (name : ℕ) → IsIn name (names_of p.pieces) → is_needed p name ≡ true → is_spare p name ≡ false → IsUsed chosen name
+  pub used : (name : ℕ) → IsIn name (names_of (pieces_of p)) → is_needed p name ≡ true → is_spare p name ≡ false → IsUsed chosen name
   pub filled : (v : Coordinates) → must_fill p v ≡ true → (c : ChoiceValue) × (chosen c ≡ true) × IsIn v c.cells
   pub apart : (v : Coordinates) (c d : ChoiceValue) → chosen c ≡ true → chosen d ≡ true → IsIn v c.cells → IsIn v d.cells → c ≡ d
-  pub ordered : (c d : ChoiceValue) → chosen c ≡ true → chosen d ≡ true → IsIn (c.name, d.name) (pairs p)
+  pub ordered : (c d : ChoiceValue) → chosen c ≡ true → chosen d ≡ true → IsIn (c.name, d.name) order
       → coordinates_cmp (first_cell c.cells) (first_cell d.cells) ≡ Less
-  pub in_turn : (m n : ℕ) → IsIn (m, n) (pairs p) → IsUsed chosen n → IsUsed chosen m
+  pub in_turn : (m n : ℕ) → IsIn (m, n) order → IsUsed chosen n → IsUsed chosen m
+
+-- that is so by the pairs of equal pieces of the puzzle
+abbrev pub IsPacking : PuzzleValue → (ChoiceValue → Bool) → Type 0
+IsPacking p chosen = IsPackingBy p (pairs p) chosen
 
 -- ---- the problem
 
@@ -104,7 +108,7 @@ sure_followers spare ps name = filter (λ n. not (has_name spare n)) (followers_
 
 -- the equal pieces that follow this one and have to be used
 abbrev pub followers : PuzzleValue → ℕ → List ℕ
-followers p name = sure_followers p.spare (pairs p) name
+followers p name = sure_followers (spare_names p) (pairs p) name
 
 -- how many of the cells come before this one
 abbrev pub place_of : List Coordinates → Coordinates → ℕ
@@ -133,7 +137,7 @@ choices_of_piece p named = filter (may_be_chosen p) (map (choice_with (named.0))
 
 -- what may be chosen, piece by piece
 unfoldable pub every_choice : PuzzleValue → List ChoiceValue
-every_choice p = flat_map (choices_of_piece p) p.pieces
+every_choice p = flat_map (choices_of_piece p) (pieces_of p)
 
 -- the ways to part equal pieces in two: those that are used, and one at least that is left out
 abbrev pub partings : List ℕ → List (List ℕ × List ℕ)
@@ -146,7 +150,7 @@ leavings_of p group = filter (λ parts. list_all (is_spare p) (parts.1)) (partin
 
 -- the ways to leave out spare copies, group by group
 unfoldable pub leavings : PuzzleValue → List (List ℕ × List ℕ)
-leavings p = flat_map (leavings_of p) p.equal
+leavings p = flat_map (leavings_of p) (equal_names p)
 
 -- what an item stands for: a piece, by its name; a cell; or a node of the tree that keeps two equal pieces in order, by the name of
 -- the one that comes first
@@ -169,7 +173,7 @@ same_thing (a_node m h) (a_cell w) = false
 
 -- the required pieces, and then the cells that have to be filled
 abbrev pub needed_things : PuzzleValue → List Thing
-needed_things p = map a_piece (filter (is_needed p) (names_of p.pieces)) ++ map a_cell (filter (must_fill p) p.region)
+needed_things p = map a_piece (filter (is_needed p) (names_of (pieces_of p))) ++ map a_cell (filter (must_fill p) p.region)
 
 -- so many levels has a tree with a leaf for each of so many cells, 4,096 at most
 unfoldable pub levels_for : ℕ → ℕ
@@ -185,7 +189,7 @@ nodes p pair = map (a_node (pair.0)) (range_with_len 1 (2 ^ tree_levels p - 1))
 
 -- and then the pieces that may be left out, the cells that may stay empty, and the nodes
 abbrev pub other_things : PuzzleValue → List Thing
-other_things p = map a_piece p.maybe_pieces ++ (map a_cell p.maybe_cells ++ flat_map (nodes p) (pairs p))
+other_things p = map a_piece (maybe_names p) ++ (map a_cell p.maybe_cells ++ flat_map (nodes p) (pairs p))
 
 -- all of them
 abbrev pub things : PuzzleValue → List Thing

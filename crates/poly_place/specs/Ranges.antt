@@ -4,7 +4,8 @@
 -- no others.
 use Rattle.std.specs.Prelude.{◌≡◌, ℕ, Bool, true, not, List, [], map, filter}
 use Rattle.poly_cells.specs.Sets.{IsIn}
-use Rattle.poly_texts.specs.Puzzle.{PuzzleValue, IsPuzzle, has_name, is_spare}
+use Rattle.poly_texts.specs.Kinds.{KindValue}
+use Rattle.poly_texts.specs.Puzzle.{PuzzleValue, IsPuzzle, has_name, is_spare, spare_names}
 use Rattle.poly_place.specs.Packings.{ChoiceValue, pairs, IsPacking, option_of, every_choice, packing_problem}
 
 -- spare copies that are left out together: with one of them also the next one
@@ -16,13 +17,13 @@ pub record AreSpareEnds (p : PuzzleValue) (gone : List ℕ) : Type 0 where
 abbrev pub is_kept : List ℕ → ℕ → Bool
 is_kept gone n = not (has_name gone n)
 
--- the puzzle without these copies, where all others have to be used
+-- the kind without these copies, where all others have to be used
+abbrev pub fixed_kind : List ℕ → KindValue → KindValue
+fixed_kind gone k = record k { symbols = filter (is_kept gone) k.symbols; spare = 0 }
+
+-- the puzzle of such kinds
 abbrev pub fixed_without : List ℕ → PuzzleValue → PuzzleValue
-fixed_without gone p = record p {
-  pieces = filter (λ q. is_kept gone (q.0)) p.pieces;
-  equal = map (filter (is_kept gone)) p.equal;
-  spare = [];
-}
+fixed_without gone p = record p { kinds = map (fixed_kind gone) p.kinds }
 
 -- each packing is one of a puzzle with fixed numbers, of exactly one, and each packing of such a puzzle is one
 pub record SumOfFixed (p : PuzzleValue) : Type 0 where
@@ -37,4 +38,4 @@ RangesAreSums = (p : PuzzleValue) → IsPuzzle p → SumOfFixed p
 
 -- a puzzle without spare copies has the options that lay a piece, and no others
 abbrev pub SurePuzzlesStay : Type 0
-SurePuzzlesStay = (p : PuzzleValue) → p.spare ≡ [] → (packing_problem p).options ≡ map (option_of p) (every_choice p)
+SurePuzzlesStay = (p : PuzzleValue) → (spare_names p) ≡ [] → (packing_problem p).options ≡ map (option_of p) (every_choice p)

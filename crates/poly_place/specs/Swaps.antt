@@ -4,16 +4,16 @@
 -- class of those that differ by equal pieces that change places.
 use Rattle.std.specs.Prelude.{◌≡◌, ℕ, ◌⊎◌, Bool, true, List, []}
 use Rattle.poly_cells.specs.Sets.{IsIn}
-use Rattle.poly_texts.specs.Puzzle.{PuzzleValue, IsPuzzle}
-use Rattle.poly_place.specs.Packings.{ChoiceValue, IsPacking}
+use Rattle.poly_texts.specs.Puzzle.{PuzzleValue, IsPuzzle, equal_names}
+use Rattle.poly_place.specs.Packings.{ChoiceValue, IsPackingBy, IsPacking}
 
--- the same puzzle, but no two pieces are equal
-abbrev pub told_apart : PuzzleValue → PuzzleValue
-told_apart p = record p { equal = [] }
+-- a packing where equal pieces are told apart: none comes before the other
+abbrev pub IsApart : PuzzleValue → (ChoiceValue → Bool) → Type 0
+IsApart p chosen = IsPackingBy p [] chosen
 
 -- the names are the same, or those of equal pieces
 abbrev pub AreEqual : PuzzleValue → ℕ → ℕ → Type 0
-AreEqual p m n = (m ≡ n) ⊎ ((group : List ℕ) × IsIn group p.equal × IsIn m group × IsIn n group)
+AreEqual p m n = (m ≡ n) ⊎ ((group : List ℕ) × IsIn group (equal_names p) × IsIn m group × IsIn n group)
 
 -- where the one packing lays a piece, the other one lays it or an equal one, and the other way round
 pub record IsSwap (p : PuzzleValue) (chosen other : ChoiceValue → Bool) : Type 0 where
@@ -29,8 +29,8 @@ pub record HasOneInOrder (p : PuzzleValue) (chosen : ChoiceValue → Bool) : Typ
 -- each packing is one in which the pieces are told apart, and of those that differ by equal pieces that change places
 -- exactly one is a packing
 pub record CountSwapsOnce (p : PuzzleValue) : Type 0 where
-  pub apart : (chosen : ChoiceValue → Bool) → IsPacking p chosen → IsPacking (told_apart p) chosen
-  pub once : (chosen : ChoiceValue → Bool) → IsPacking (told_apart p) chosen → HasOneInOrder p chosen
+  pub apart : (chosen : ChoiceValue → Bool) → IsPacking p chosen → IsApart p chosen
+  pub once : (chosen : ChoiceValue → Bool) → IsApart p chosen → HasOneInOrder p chosen
 
 -- so it is for each puzzle
 abbrev pub SwapsCountOnce : Type 0

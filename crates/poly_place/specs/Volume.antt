@@ -6,21 +6,21 @@ use Rattle.std.specs.Prelude.{◌≡◌, ℕ, ◌+◌, ◌*◌, ◌==◌, Bool, 
 use Rattle.std.specs.List.{sum_by}
 use Rattle.poly_cells.specs.Coordinates.{Coordinates}
 use Rattle.poly_cells.specs.Sets.{IsIn}
-use Rattle.poly_texts.specs.Puzzle.{PuzzleValue, IsPuzzle}
+use Rattle.poly_texts.specs.Puzzle.{PuzzleValue, IsPuzzle, pieces_of, maybe_names, any_names, spare_names}
 use Rattle.poly_place.specs.Packings.{ChoiceValue, IsPacking}
 use Rattle.poly_place.specs.Chosen.{is_among}
 
 -- the volume forces how often the piece with this name is used
 pub record IsForced (p : PuzzleValue) (name : ℕ) (piece : List Coordinates) : Type 0 where
   pub filled : p.maybe_cells ≡ []
-  pub used : p.maybe_pieces ≡ []
-  pub sure : p.spare ≡ []
-  pub any : p.any_pieces ≡ name ∷ []
-  pub named : IsIn (name, piece) p.pieces
+  pub used : (maybe_names p) ≡ []
+  pub sure : (spare_names p) ≡ []
+  pub any : (any_names p) ≡ name ∷ []
+  pub named : IsIn (name, piece) (pieces_of p)
 
 -- the pieces of other names
 abbrev pub other_pieces : PuzzleValue → ℕ → List (ℕ × List Coordinates)
-other_pieces p name = filter (λ q. not (q.0 == name)) p.pieces
+other_pieces p name = filter (λ q. not (q.0 == name)) (pieces_of p)
 
 -- how many cells they have
 abbrev pub other_cells : PuzzleValue → ℕ → ℕ

@@ -1,7 +1,7 @@
 //! Classes of packings: how many there are where those that a symmetry carries onto one another count as one.
 ghost use Rattle.std.specs.Prelude.{◌≡◌, IfOk};
 ghost use Rattle.shared_words.specs.Answers.{Returns};
-ghost use Rattle.poly_texts.specs.Lists.{lists_of};
+ghost use Rattle.poly_place.specs.Lists.{lists_of};
 ghost use Rattle.poly_place.specs.Classes.{AreAlike, HaveOneRegion, IsClassCount, is_member};
 ghost use Rattle.poly_place.specs.ClassCount.{are_alike, class_count};
 ghost use Rattle.poly_place.specs.Forms.{AreCarriers};

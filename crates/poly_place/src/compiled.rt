@@ -1,20 +1,19 @@
 //! The exact cover problem that stands for a puzzle.
-ghost use Rattle.std.specs.Prelude.{◌≡◌, ◌++◌, Ok, Some, None, true, false, map, length, if◌then◌else◌};
+ghost use Rattle.std.specs.Prelude.{◌≡◌, ◌++◌, true, false, map, length};
 ghost use Rattle.std.specs.Prelude.{IsOk, IsErrOf};
-ghost use Rattle.poly_texts.specs.Puzzle.{IsPuzzle};
+ghost use Rattle.poly_texts.specs.Puzzle.{IsPuzzle, maybe_names};
 ghost use Rattle.shared_words.specs.Answers.{Returns, ReturnsItems};
-ghost use Rattle.poly_texts.specs.Lists.{lists_of};
-ghost use Rattle.poly_place.specs.Answers.{AddsLists, ReturnsLists, ReturnsTexts};
+ghost use Rattle.poly_place.specs.Lists.{lists_of};
+ghost use Rattle.poly_place.specs.Answers.{ReturnsLists, ReturnsTexts};
 ghost use Rattle.poly_place.specs.Packings.{every_choice, packing_problem, needed_things, option_of, thing_name, things, problem_fits};
 ghost use Rattle.poly_place.specs.Compiled.{filled_cells, left_items, left_out, needed_names};
 
 use crate::choice::Choice;
 use crate::fault::PlaceFault;
 use crate::items::{add_cell_names, add_piece_names, needed_cells, needed_pieces};
-use crate::laying::all_choices;
 use crate::leavings::left_out;
 use crate::numbers::Numbers;
-use crate::room::has_room;
+use crate::room::choices_within;
 use crate::table::table_of;
 use cover_problem::{Problem, ProblemFault};
 use poly_cells::{Cell, Shape};
@@ -60,7 +59,7 @@ impl<'p> Compiled<'p> {
 
     /// The pieces that may be left out.
     pub fn maybe_pieces(&self) -> &[PieceName]
-        ensures { result.now ≡ self.now.maybe_pieces }
+        ensures { result.now ≡ (maybe_names self.now) }
     {
         self.puzzle.maybe_pieces()
     }
@@ -89,16 +88,6 @@ impl<'p> Compiled<'p> {
     }
 }
 
-/// The refusal of a puzzle for whose options there is no room. No memory is asked for here, so none can be wanting.
-fn refusal(room: bool) -> Option<PlaceFault>
-    ensures { result ≡ (if room then None else Some PlaceFault.TooManyOptions) }
-{
-    if room {
-        return None;
-    }
-    Some(PlaceFault::TooManyOptions)
-}
-
 /// The problem that stands for the puzzle; refused exactly where it would be past the limits of a problem.
 pub fn compile<'p>(alloc: Global, puzzle: &'p Puzzle) -> Result<Compiled<'p>, PlaceFault>
     ensures value { Returns result puzzle.now }
@@ -110,14 +99,11 @@ pub fn compile<'p>(alloc: Global, puzzle: &'p Puzzle) -> Result<Compiled<'p>, Pl
     let cells = needed_cells(alloc, puzzle)?;
     let filled = table_of(alloc, cells.as_slice())?;
     let numbers = Numbers::of(alloc, puzzle, pieces.as_slice(), cells.as_slice())?;
-    let room = has_room(alloc, puzzle, filled.as_slice(), &numbers)?;
-    if let Some(fault) = refusal(room) {
-        return Err(fault);
-    }
-    let choices = all_choices(alloc, &numbers, filled.as_slice())?;
+    let Some(choices) = choices_within(alloc, puzzle, filled.as_slice(), &numbers)? else {
+        return Err(PlaceFault::TooManyOptions);
+    };
     let problem = problem_of(
         alloc,
-        puzzle,
         pieces.as_slice(),
         cells.as_slice(),
         &numbers,
@@ -133,32 +119,24 @@ pub fn compile<'p>(alloc: Global, puzzle: &'p Puzzle) -> Result<Compiled<'p>, Pl
 /// The problem of a puzzle with these required pieces and cells, and these choices.
 fn problem_of(
     alloc: Global,
-    puzzle: &Puzzle,
     pieces: &[PieceName],
     cells: &[Cell],
     numbers: &Numbers<'_>,
     list: &[Choice],
 ) -> Result<Problem, AllocError>
-    requires puzzle { IsPuzzle puzzle.now }
-    requires pieces { pieces.now ≡ needed_names puzzle.now }
-    requires cells { cells.now ≡ filled_cells puzzle.now }
-    requires numbers { numbers.now ≡ puzzle.now }
-    requires list { list.now ≡ every_choice puzzle.now }
-    requires small { problem_fits puzzle.now ≡ true }
-    ensures { Returns result (packing_problem puzzle.now) }
+    requires puzzle { IsPuzzle numbers.now }
+    requires pieces { pieces.now ≡ needed_names numbers.now }
+    requires cells { cells.now ≡ filled_cells numbers.now }
+    requires list { list.now ≡ every_choice numbers.now }
+    requires small { problem_fits numbers.now ≡ true }
+    ensures { Returns result (packing_problem numbers.now) }
 {
     let primary = (pieces.len() + cells.len()) as u32;
-    let names = item_names(alloc, puzzle, pieces, cells, numbers)?;
+    let names = item_names(alloc, pieces, cells, numbers)?;
     let mut options = all_options(alloc, pieces, primary, numbers, list)?;
-    let lefts = left_out(alloc, puzzle)?;
-    add_leavings(
-        alloc,
-        &mut options,
-        pieces,
-        primary,
-        numbers,
-        lefts.as_slice(),
-    )?;
+    let lefts = left_out(alloc, numbers.puzzle())?;
+    let mut leavings = leaving_options(alloc, pieces, primary, numbers, lefts.as_slice())?;
+    options.append(&mut leavings)?;
     match Problem::new(alloc, names, primary, options) {
         Ok(problem) => Ok(problem),
         Err(refused) => match refused.fault {
@@ -171,16 +149,15 @@ fn problem_of(
 /// The names of the items, in order.
 fn item_names(
     alloc: Global,
-    puzzle: &Puzzle,
     pieces: &[PieceName],
     cells: &[Cell],
     numbers: &Numbers<'_>,
 ) -> Result<Vec<String>, AllocError>
-    requires pieces { pieces.now ≡ needed_names puzzle.now }
-    requires cells { cells.now ≡ filled_cells puzzle.now }
-    requires numbers { numbers.now ≡ puzzle.now }
-    ensures { ReturnsTexts result (map thing_name (things puzzle.now)) }
+    requires pieces { pieces.now ≡ needed_names numbers.now }
+    requires cells { cells.now ≡ filled_cells numbers.now }
+    ensures { ReturnsTexts result (map thing_name (things numbers.now)) }
 {
+    let puzzle = numbers.puzzle();
     let mut names = Vec::new(alloc);
     add_piece_names(alloc, &mut names, pieces)?;
     add_cell_names(alloc, &mut names, cells)?;
@@ -190,26 +167,25 @@ fn item_names(
     Ok(names)
 }
 
-/// Adds the options that leave out these copies.
-fn add_leavings(
+/// The options that leave out these copies.
+fn leaving_options(
     alloc: Global,
-    options: &mut Vec<Vec<u32>>,
     needed: &[PieceName],
     primary: u32,
     numbers: &Numbers<'_>,
     lefts: &[Vec<PieceName>],
-) -> Result<(), AllocError>
+) -> Result<Vec<Vec<u32>>, AllocError>
     requires puzzle { IsPuzzle numbers.now }
     requires needed { needed.now ≡ needed_names numbers.now }
     requires primary { primary ≡ length (needed_things numbers.now) }
     requires lefts { lists_of lefts.now ≡ left_out numbers.now }
-    ensures { AddsLists result options.old options.new
-        (map (left_items numbers.now) (left_out numbers.now)) }
+    ensures { ReturnsLists result (map (left_items numbers.now) (left_out numbers.now)) }
 {
+    let mut options = Vec::with_capacity(alloc, lefts.len())?;
     for left in lefts {
         options.push(numbers.items_of(alloc, needed, primary, left.as_slice())?)?;
     }
-    Ok(())
+    Ok(options)
 }
 
 /// The options of these choices.

@@ -5,7 +5,7 @@ ghost use Rattle.poly_cells.specs.Coordinates.{Coordinates, IsInGrid};
 ghost use Rattle.poly_cells.specs.Sets.{in_order};
 ghost use Rattle.poly_cells.specs.Shapes.{IsShape};
 ghost use Rattle.shared_words.specs.Answers.{ReturnsItems};
-ghost use Rattle.poly_texts.specs.Lists.{lists_of};
+ghost use Rattle.poly_place.specs.Lists.{lists_of};
 ghost use Rattle.poly_place.specs.Answers.{ReturnsLists};
 ghost use Rattle.poly_place.specs.Tables.{grid_cells};
 ghost use Rattle.poly_place.specs.Compiled.{item_number_at, ArePlacesOf};

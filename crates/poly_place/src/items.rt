@@ -5,7 +5,7 @@ ghost use Rattle.poly_cells.specs.CellWords.{cell_word};
 ghost use Rattle.poly_cells.specs.CellWords as grammar;
 ghost use Rattle.poly_cells.specs.Sets.{IsIn};
 ghost use Rattle.poly_cells.specs.Shapes.{IsShape};
-ghost use Rattle.poly_texts.specs.Puzzle.{IsPuzzle, names_of, is_needed};
+ghost use Rattle.poly_texts.specs.Puzzle.{IsPuzzle, names_of, is_needed, pieces_of};
 ghost use Rattle.cover_problem.specs.Limits.{most_items};
 ghost use Rattle.shared_words.specs.Answers.{ReturnsItems};
 ghost use Rattle.poly_place.specs.Answers.{AddsTexts};
@@ -37,7 +37,7 @@ pub fn needed_pieces(alloc: Global, puzzle: &Puzzle) -> Result<Vec<PieceName>, A
 pub fn is_needed(puzzle: &Puzzle, name: PieceName) -> bool
     ensures { result ≡ is_needed puzzle.now name }
 {
-    !puzzle.maybe_pieces().contains(&name) && !puzzle.any_pieces().contains(&name)
+    !puzzle.is_maybe(name) && !puzzle.is_any(name)
 }
 
 /// The cells of the region that may not stay empty, in order.
@@ -120,7 +120,7 @@ pub fn piece_number(puzzle: &Puzzle, needed: &[PieceName], primary: u32, name: P
     requires puzzle { IsPuzzle puzzle.now }
     requires needed { needed.now ≡ needed_names puzzle.now }
     requires primary { primary ≡ length (needed_things puzzle.now) }
-    requires member { IsIn name (names_of puzzle.now.pieces) }
+    requires member { IsIn name (names_of (pieces_of puzzle.now)) }
     requires single { is_any puzzle.now name ≡ false }
     ensures { result ≡ thing_item puzzle.now (a_piece name) }
 {

@@ -1,11 +1,12 @@
 //! Packings as layers of text.
-ghost use Rattle.std.specs.Prelude.{◌≡◌, ◌≤◌, ◌<◌, ◌∷◌, [], ℕ, length, replicate, slice_index, IfOk, OnOk};
+ghost use Rattle.std.specs.Prelude.{◌≡◌, ◌≤◌, ◌<◌, ◌∷◌, [], ℕ, length, map, replicate, slice_index, IfOk, OnOk};
 ghost use Rattle.std.specs.String.{string_bytes};
 ghost use Rattle.text_lines.specs.Writing.{text_of};
+ghost use Rattle.poly_cells.specs.Coordinates.{coordinates};
 ghost use Rattle.poly_cells.specs.Shapes.{corner};
 ghost use Rattle.shared_words.specs.Answers.{ReturnsItems};
 ghost use Rattle.poly_place.specs.Answers.{AddsText};
-ghost use Rattle.poly_place.specs.Layers.{AreSymbols, far_corner, layer_line, layer_lines, layers, row_symbols, symbol_at, with_gap, Paints, Shows};
+ghost use Rattle.poly_place.specs.Layers.{AreSymbols, far_corner, from_to, layer_line, layer_lines, layers, symbol_at, with_gap, Paints, Shows};
 ghost use Rattle.poly_place.specs.Tables.{grid_cells};
 
 use crate::packing::Packing;
@@ -62,27 +63,28 @@ fn push_line(
 {
     for z in low.z()..high.z() + 1 {
         push_gap(text, z > low.z())?;
-        push_row(text, symbols, low, high, y, z)?;
+        push_row(text, symbols, (low.x(), high.x()), y, z)?;
     }
     push_symbol(text, b'\n')
 }
 
-/// Adds the symbols of the cells with this y and z.
+/// Adds the symbols of the cells with this y and z, from one x to the other.
 fn push_row(
     text: &mut String,
     symbols: &[u8],
-    low: Cell,
-    high: Cell,
+    ends: (u8, u8),
     y: u8,
     z: u8,
 ) -> Result<(), AllocError>
     requires long { length symbols.now ≡ grid_cells }
+    requires x_within { ends.1 ≤ 31 }
     requires y_within { y ≤ 31 }
     requires z_within { z ≤ 31 }
     requires ascii { (i : ℕ) → slice_index symbols.now i < 128 }
-    ensures { Shows result text.old text.new symbols.now (λ f. row_symbols f low high y z) }
+    ensures { Shows result text.old text.new symbols.now
+        (λ f. map (λ x. f (coordinates x y z)) (from_to (ends.0) (ends.1))) }
 {
-    for x in low.x()..high.x() + 1 {
+    for x in ends.0..ends.1 + 1 {
         push_symbol(text, symbols[bit_index(x, y, z)])?;
     }
     Ok(())

@@ -1,10 +1,10 @@
 //! What may be chosen for the pieces of a puzzle: a placement of each.
 ghost use Rattle.std.specs.Prelude.{◌≡◌, ◌<◌, ◌||◌, ◌&&◌, length};
 ghost use Rattle.std.specs.List.{list_any};
-ghost use Rattle.shared_words.specs.Answers.{ReturnsItems, Adds};
+ghost use Rattle.shared_words.specs.Answers.{ReturnsItems};
 ghost use Rattle.poly_place.specs.Tables.{IsCellTable, grid_cells, has_bit};
 ghost use Rattle.poly_cells.specs.Sets.{IsIn};
-ghost use Rattle.poly_place.specs.Packings.{every_choice, choices_of_piece, first_cell, has_room_for, turning_group};
+ghost use Rattle.poly_place.specs.Packings.{choices_of_piece, first_cell, has_room_for, turning_group};
 ghost use Rattle.poly_place.specs.Compiled.{filled_cells};
 
 use crate::alike::Group;
@@ -17,37 +17,37 @@ use poly_cells::{Cell, Shape};
 use poly_texts::{PieceName, Puzzle};
 use std::alloc::{AllocError, Global};
 
-/// Adds what may be chosen for a piece: its placements, those of a piece that may be left out only where they fill a cell that
-/// has to be filled, and those of a copy only where they leave room for the copies that follow.
-pub fn add_choices(
+/// What may be chosen for a piece: its placements, those of a piece that may be left out only where they fill a cell that has to be
+/// filled, and those of a copy only where they leave room for the copies that follow.
+pub fn choices_of(
     alloc: Global,
-    choices: &mut Vec<Choice>,
     numbers: &Numbers<'_>,
     filled: &[bool],
     name: PieceName,
     piece: &Shape,
-) -> Result<(), AllocError>
+) -> Result<Vec<Choice>, AllocError>
     requires { IsCellTable (filled_cells numbers.now) filled.now }
-    ensures { Adds result choices.old choices.new (choices_of_piece numbers.now (name, piece.now)) }
+    ensures { ReturnsItems result (choices_of_piece numbers.now (name, piece.now)) }
 {
     let puzzle = numbers.puzzle();
     let is_needed = is_needed(puzzle, name);
     let group = turning_group(puzzle, name);
     let following = numbers.following(name);
     let sets = placements_by(alloc, piece, puzzle.region(), group)?;
+    let mut choices = Vec::new(alloc);
     for cells in sets {
         if may_be_chosen(numbers, filled, is_needed, following, cells.cells()) {
             choices.push(Choice::new(name, cells))?;
         }
     }
-    Ok(())
+    Ok(choices)
 }
 
 /// The symmetries by which a piece may be turned.
 fn turning_group(puzzle: &Puzzle, name: PieceName) -> Group
     ensures { result ≡ turning_group puzzle.now name }
 {
-    if puzzle.mirrored().contains(&name) {
+    if puzzle.is_mirrored(name) {
         Group::Symmetries
     } else {
         Group::Rotations
@@ -87,23 +87,4 @@ fn meets(bits: &[bool], cells: &[Cell]) -> bool
     cells
         .iter()
         .any(|cell| has_bit(bits, cell.x(), cell.y(), cell.z()))
-}
-
-/// What may be chosen for all pieces, piece by piece.
-pub fn all_choices(
-    alloc: Global,
-    numbers: &Numbers<'_>,
-    filled: &[bool],
-) -> Result<Vec<Choice>, AllocError>
-    requires { IsCellTable (filled_cells numbers.now) filled.now }
-    ensures { ReturnsItems result (every_choice numbers.now) }
-{
-    let puzzle = numbers.puzzle();
-    let pieces = puzzle.pieces();
-    let mut choices = Vec::new(alloc);
-    for k in 0..pieces.len() {
-        let (name, piece) = pieces.get_index(k).unwrap();
-        add_choices(alloc, &mut choices, numbers, filled, *name, piece)?;
-    }
-    Ok(choices)
 }

@@ -1,7 +1,7 @@
 //! The numbers of the items of a puzzle's problem, and the options that they make.
 ghost use Rattle.std.specs.Prelude.{◌≡◌, ◌+◌, ◌<◌, ◌≤◌, ℕ, false, length, map};
 ghost use Rattle.poly_cells.specs.Sets.{IsIn};
-ghost use Rattle.poly_texts.specs.Puzzle.{IsPuzzle, names_of};
+ghost use Rattle.poly_texts.specs.Puzzle.{IsPuzzle, names_of, pieces_of};
 ghost use Rattle.poly_cells.specs.Coordinates.{Coordinates};
 ghost use Rattle.shared_words.specs.Answers.{Adds, Returns, ReturnsItems};
 ghost use Rattle.poly_place.specs.Answers.{AddsTexts};
@@ -11,7 +11,7 @@ ghost use Rattle.poly_place.specs.Compiled.{cell_items, filled_cells, left_items
 use crate::choice::Choice;
 use crate::followers::{fit, following};
 use crate::items::{cell_numbers, cell_places, node_name, piece_number};
-use crate::nodes::{pairs_of, push_pair, tree_for};
+use crate::nodes::{pairs_of, push_pair, sides_of, tree_for};
 use crate::table::bit_index;
 use poly_cells::Cell;
 use poly_texts::{PieceName, Puzzle};
@@ -57,7 +57,7 @@ impl<'p> Numbers<'p> {
     {
         let numbers = cell_numbers(alloc, puzzle, pieces, cells)?;
         let places = cell_places(alloc, puzzle)?;
-        let pairs = pairs_of(alloc, puzzle.equal())?;
+        let pairs = pairs_of(alloc, puzzle.kinds())?;
         let (levels, leaves) = tree_for(puzzle.region().cells().len());
         let needed = pieces.len() + cells.len();
         let before = (needed + puzzle.maybe_pieces().len() + puzzle.maybe_cells().len()) as u32;
@@ -83,7 +83,7 @@ impl<'p> Numbers<'p> {
     pub fn following(&self, name: PieceName) -> usize
         ensures { result ≡ length (followers self.now name) }
     {
-        following(self.pairs.as_slice(), self.puzzle.spare(), name)
+        following(self.pairs.as_slice(), self.puzzle, name)
     }
 
     /// Whether the region has room, from the least of these cells on, for so many copies of as many cells beside them.
@@ -144,7 +144,7 @@ impl<'p> Numbers<'p> {
         requires puzzle { IsPuzzle self.now }
         requires needed { needed.now ≡ needed_names self.now }
         requires primary { primary ≡ length (needed_things self.now) }
-        requires members { (n : ℕ) → IsIn n names.now → IsIn n (names_of self.now.pieces) }
+        requires members { (n : ℕ) → IsIn n names.now → IsIn n (names_of (pieces_of self.now)) }
         requires single { (n : ℕ) → IsIn n names.now → is_any self.now n ≡ false }
         ensures { ReturnsItems result (left_items self.now names.now) }
     {
@@ -166,7 +166,7 @@ impl<'p> Numbers<'p> {
         requires puzzle { IsPuzzle self.now }
         requires needed { needed.now ≡ needed_names self.now }
         requires primary { primary ≡ length (needed_things self.now) }
-        requires member { IsIn name (names_of self.now.pieces) }
+        requires member { IsIn name (names_of (pieces_of self.now)) }
         ensures { Adds result option.old option.new (piece_items self.now name) }
     {
         if self.is_any(name) {
@@ -180,7 +180,7 @@ impl<'p> Numbers<'p> {
     fn is_any(&self, name: PieceName) -> bool
         ensures { result ≡ is_any self.now name }
     {
-        self.puzzle.any_pieces().contains(&name)
+        self.puzzle.is_any(name)
     }
 
     /// Adds the items of these cells.
@@ -206,7 +206,8 @@ impl<'p> Numbers<'p> {
         let leaf = self.leaf_of(choice);
         let mut before = self.before;
         for pair in self.pairs.as_slice() {
-            push_pair(option, choice.name(), *pair, before, self.levels, leaf)?;
+            let sides = sides_of(choice.name(), *pair);
+            push_pair(option, sides, before, self.levels, leaf)?;
             before += self.leaves - 1;
         }
         Ok(())

@@ -1,18 +1,19 @@
 //! Packings of a puzzle, made of the exact covers of its problem.
-ghost use Rattle.std.specs.Prelude.{◌≡◌, [], map, IfOk};
+ghost use Rattle.std.specs.Prelude.{◌≡◌, [], flat_map, map, IfOk};
 ghost use Rattle.std.specs.Ordering.{nat_cmp};
 ghost use Rattle.poly_cells.specs.Sets.{in_order};
+ghost use Rattle.poly_texts.specs.Puzzle.{any_names, copy_symbols};
 ghost use Rattle.shared_words.specs.Lists.{has};
 ghost use Rattle.cover_problem.specs.ExactCover.{IsExactCover};
 ghost use Rattle.shared_words.specs.Answers.{Returns, ReturnsItems};
-ghost use Rattle.poly_texts.specs.Lists.{lists_of};
+ghost use Rattle.poly_texts.specs.Kinds.{kind_copies};
 ghost use Rattle.poly_place.specs.Packings.{IsPacking, packing_problem};
 ghost use Rattle.poly_place.specs.Chosen.{AreInPieceOrder, ArePositive, ComeByPiece, choice_numbered, numbering, is_among, packing_value, OptionsStandFor};
 
 use crate::choice::Choice;
 use crate::compiled::Compiled;
 use poly_cells::{Cell, Shape};
-use poly_texts::{PieceName, Puzzle};
+use poly_texts::{PieceKind, Puzzle};
 use std::alloc::{AllocError, Global};
 use std::marker::Model;
 
@@ -25,6 +26,7 @@ pub struct Packing<'p> {
 }
 
 impl<'p> Model for Packing<'p> {
+    ghost use Rattle.poly_texts.specs.Puzzle.{copy_symbols};
     ghost use Rattle.poly_place.specs.Chosen.{PackingValue};
 
     ghost Value = { PackingValue };
@@ -33,7 +35,7 @@ impl<'p> Model for Packing<'p> {
       region = a.puzzle.now.region;
       maybe_cells = a.puzzle.now.maybe_cells;
       placements = a.placements.items;
-      symbols = a.puzzle.now.symbols;
+      symbols = copy_symbols a.puzzle.now;
     } };
 }
 
@@ -59,11 +61,11 @@ impl<'p> Packing<'p> {
         self.puzzle.maybe_cells()
     }
 
-    /// The symbols that show the copies of a piece in turn, of each piece that has several, its name first.
-    pub fn symbols(&self) -> &[Vec<PieceName>]
-        ensures { lists_of result.now ≡ self.now.symbols }
+    /// The kinds of pieces, with the symbols that show the copies of a piece in turn.
+    pub fn kinds(&self) -> &[PieceKind]
+        ensures { flat_map kind_copies result.now ≡ self.now.symbols }
     {
-        self.puzzle.symbols()
+        self.puzzle.kinds()
     }
 }
 
@@ -79,7 +81,7 @@ pub fn packing_of<'p>(
     ensures stands { IfOk result (λ q. OptionsStandFor compiled.now path.now q.placements) }
     ensures by_piece { IfOk result (λ q. ComeByPiece compiled.now q.placements) }
     ensures order { IfOk result
-        (λ q. compiled.now.any_pieces ≡ [] → AreInPieceOrder compiled.now q.placements) }
+        (λ q. (any_names compiled.now) ≡ [] → AreInPieceOrder compiled.now q.placements) }
 {
     let numbers = in_order(alloc, path)?;
     let placements = chosen(alloc, compiled.choices(), numbers.as_slice())?;

@@ -1,7 +1,7 @@
 //! The placements of a piece in a region.
 ghost use Rattle.std.specs.Prelude.{◌≡◌, ◌<◌, IfOk, length, slice_index};
 ghost use Rattle.shared_words.specs.Answers.{ReturnsItems};
-ghost use Rattle.poly_texts.specs.Lists.{lists_of};
+ghost use Rattle.poly_place.specs.Lists.{lists_of};
 ghost use Rattle.poly_place.specs.Answers.{ReturnsLists, AddsLists};
 ghost use Rattle.poly_cells.specs.Symmetries.{rotations};
 ghost use Rattle.poly_place.specs.Placements.{ArePlacements, at_cell, at_cells, forms_at, moved_inside, orientations, placements, turns_by};

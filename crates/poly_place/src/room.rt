@@ -1,38 +1,43 @@
-//! Whether there is room for the options of a puzzle, counted before any of them is kept.
-ghost use Rattle.std.specs.Prelude.{◌≡◌, ◌≤◌, ◌+◌, false, IfNone, IfOk, IfSome};
+//! What may be chosen for the pieces of a puzzle, as far as there is room for its options.
+ghost use Rattle.std.specs.Prelude.{◌≡◌, ◌≤◌, ◌+◌, true, false, length, IfNone, IfOk, IfSome};
 ghost use Rattle.poly_texts.specs.Puzzle.{IsPuzzle};
-ghost use Rattle.shared_words.specs.Answers.{Returns};
 ghost use Rattle.poly_place.specs.Tables.{IsCellTable};
 ghost use Rattle.poly_cells.specs.Sets.{IsIn};
 ghost use Rattle.poly_place.specs.Packings.{ChoiceValue, every_choice, problem_fits};
-ghost use Rattle.poly_texts.specs.Lists.{lists_of};
+ghost use Rattle.poly_place.specs.Lists.{lists_of};
 ghost use Rattle.poly_place.specs.Compiled.{LaysWithin, entries_of, filled_cells, has_room_beside, leaving_entries};
 
 use crate::choice::Choice;
-use crate::laying::add_choices;
+use crate::laying::choices_of;
 use crate::leavings::left_out;
 use crate::numbers::Numbers;
 use cover_problem::{MOST_ENTRIES, MOST_ITEMS, MOST_OPTIONS};
 use poly_texts::{PieceName, Puzzle};
 use std::alloc::{AllocError, Global};
 
-/// Whether the problem that stands for the puzzle is within the limits. No more is kept than what may be chosen for one piece.
-pub fn has_room(
+/// What may be chosen for all pieces, piece by piece; None where the problem that stands for the puzzle is past a limit.
+pub fn choices_within(
     alloc: Global,
     puzzle: &Puzzle,
     filled: &[bool],
     numbers: &Numbers<'_>,
-) -> Result<bool, AllocError>
+) -> Result<Option<Vec<Choice>>, AllocError>
     requires puzzle { IsPuzzle puzzle.now }
     requires filled { IsCellTable (filled_cells puzzle.now) filled.now }
     requires numbers { numbers.now ≡ puzzle.now }
-    ensures { Returns result (problem_fits puzzle.now) }
+    ensures none { IfOk result (λ found. IfNone found (problem_fits puzzle.now ≡ false)) }
+    ensures fits { IfOk result (λ found. IfSome found (λ _. problem_fits puzzle.now ≡ true)) }
+    ensures choices { IfOk result
+        (λ found. IfSome found (λ cs. cs.items ≡ every_choice puzzle.now)) }
 {
-    let Some((options, entries)) = laying_room(alloc, puzzle, filled, numbers)? else {
-        return Ok(false);
+    let Some((choices, entries)) = laid_within(alloc, puzzle, filled, numbers)? else {
+        return Ok(None);
     };
     let lefts = left_out(alloc, puzzle)?;
-    Ok(has_room_beside(options, entries, lefts.as_slice()))
+    if !has_room_beside(choices.len(), entries, lefts.as_slice()) {
+        return Ok(None);
+    }
+    Ok(Some(choices))
 }
 
 /// Whether there is room for the options that leave out these copies too.
@@ -63,36 +68,39 @@ fn entries_beside(entries: usize, lefts: &[Vec<PieceName>]) -> usize
     entries
 }
 
-/// How many options lay a piece, and the entries of a table with these alone; None where a limit is passed.
-fn laying_room(
+/// What may be chosen for all pieces, and the entries of a table with these options alone; None where a limit is passed.
+fn laid_within(
     alloc: Global,
     puzzle: &Puzzle,
     filled: &[bool],
     numbers: &Numbers<'_>,
-) -> Result<Option<(usize, usize)>, AllocError>
+) -> Result<Option<(Vec<Choice>, usize)>, AllocError>
     requires puzzle { IsPuzzle puzzle.now }
     requires filled { IsCellTable (filled_cells puzzle.now) filled.now }
     requires numbers { numbers.now ≡ puzzle.now }
     ensures none { IfOk result (λ found. IfNone found (problem_fits puzzle.now ≡ false)) }
-    ensures some { IfOk result (λ found. IfSome found (λ r. LaysWithin puzzle.now r.0 r.1)) }
+    ensures choices { IfOk result
+        (λ found. IfSome found (λ r. r.0.items ≡ every_choice puzzle.now)) }
+    ensures room { IfOk result
+        (λ found. IfSome found (λ r. LaysWithin puzzle.now (length r.0.items) r.1)) }
 {
     let items = numbers.items();
     if items > MOST_ITEMS {
         return Ok(None);
     }
     let pieces = puzzle.pieces();
-    let (mut options, mut entries) = (0, items + 2);
+    let (mut all, mut entries) = (Vec::new(alloc), items + 2);
     for k in 0..pieces.len() {
         let (name, piece) = pieces.get_index(k).unwrap();
-        let mut choices = Vec::new(alloc);
-        add_choices(alloc, &mut choices, numbers, filled, *name, piece)?;
-        options += choices.len();
+        let mut choices = choices_of(alloc, numbers, filled, *name, piece)?;
         entries = entries_with(alloc, entries, numbers, choices.as_slice())?;
+        all.append(&mut choices)?;
+        let options = all.len();
         if options > MOST_OPTIONS || entries > MOST_ENTRIES {
             return Ok(None);
         }
     }
-    Ok(Some((options, entries)))
+    Ok(Some((all, entries)))
 }
 
 /// The entries of a table with the options of these choices added; where that goes past the limit, some number past it.

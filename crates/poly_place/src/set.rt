@@ -5,7 +5,7 @@ ghost use Rattle.poly_cells.specs.Coordinates.{Coordinates, IsInGrid, coordinate
 ghost use Rattle.poly_cells.specs.Sets.{IsIn, in_order};
 ghost use Rattle.poly_cells.specs.Shapes.{IsShape, moved, moved_back};
 ghost use Rattle.shared_words.specs.Answers.{ReturnsItems};
-ghost use Rattle.poly_texts.specs.Lists.{lists_of};
+ghost use Rattle.poly_place.specs.Lists.{lists_of};
 ghost use Rattle.poly_place.specs.Placements.{cells_cmp, is_below};
 ghost use Rattle.poly_place.specs.Tables.{grid_cells, has_bit};
 

@@ -1,38 +1,47 @@
 //! The symbols that show pieces: the name of a piece, or for its copies the symbols of its line in turn.
-ghost use Rattle.std.specs.Prelude.{◌≡◌, ◌<◌, true, find, length, option_map, IfSome};
-ghost use Rattle.poly_texts.specs.Lists.{lists_of};
+ghost use Rattle.std.specs.Prelude.{◌≡◌, ◌<◌, true, find, flat_map, length, option_map, IfSome};
+ghost use Rattle.std.specs.List.{list_any};
+ghost use Rattle.poly_texts.specs.Kinds.{kind_copies};
 ghost use Rattle.poly_place.specs.Layers.{begins_with, is_earlier_copy, copy_rank, shown_symbol};
 ghost use Rattle.poly_place.specs.Packings.{first_cell};
 
 use crate::choice::Choice;
 use crate::packing::Packing;
 use poly_cells::Cell;
-use poly_texts::PieceName;
+use poly_texts::{PieceKind, PieceName};
 
 /// What shows a piece of the packing: its name; or of the symbols that show its copies in turn that of the copy's rank.
 pub fn shown_symbol(packing: &Packing<'_>, choice: &Choice) -> u8
     ensures value { result ≡ shown_symbol packing.now choice.now }
     ensures ascii { result < 128 }
 {
-    match word_of(packing.symbols(), choice.name()) {
+    match word_of(packing.kinds(), choice.name()) {
         Some(word) => word[copy_rank(packing.placements(), choice) % word.len()].symbol(),
         None => choice.name().symbol(),
     }
 }
 
-/// The symbols that begin with the name, if there are such.
-fn word_of(symbols: &[Vec<PieceName>], name: PieceName) -> Option<&[PieceName]>
+/// The symbols that begin with the name, if there are such, of a kind that shows its copies by them.
+fn word_of(kinds: &[PieceKind], name: PieceName) -> Option<&[PieceName]>
     ensures value { option_map (λ word. word.now) result ≡
-        find (begins_with name) (lists_of symbols.now) }
+        find (begins_with name) (flat_map kind_copies kinds.now) }
     ensures some { IfSome result (λ word. 0 < length word.now) }
 {
-    for k in 0..symbols.len() {
-        let word = symbols[k].as_slice();
-        if begins_with(name, word) {
-            return Some(word);
+    for k in 0..kinds.len() {
+        if shows_copies(&kinds[k], name) {
+            return Some(kinds[k].symbols());
         }
     }
     None
+}
+
+/// Whether the copies of the kind's piece are shown by several symbols, which begin with the name.
+fn shows_copies(kind: &PieceKind, name: PieceName) -> bool
+    ensures value { result ≡ list_any (begins_with name) (kind_copies kind.now) }
+    ensures some { result ≡ true → 0 < length kind.now.symbols }
+{
+    let symbols = kind.symbols();
+    kind.usage().is_any() && symbols.len() > 1 && begins_with(name, symbols)
 }
 
 /// Whether the symbols begin with the name.

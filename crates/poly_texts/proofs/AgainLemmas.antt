@@ -1,21 +1,22 @@
 -- A line that fits is taken: its words say what it adds.
-use Rattle.std.proofs.Common.{◌≡◌, ◌≤◌, ◌==◌, ◌++◌, ℕ, List, [], ◌∷◌, map, length, Bool, true, false, not, ◌&&◌, nat_lt, nat_le, ◌||◌, Some, Ok, refl, sym, ap, arith, decimal, ltb-true, leb-true}
+use Rattle.std.proofs.Common.{◌≡◌, ◌≤◌, ◌==◌, ◌-◌, ◌++◌, ℕ, List, [], ◌∷◌, take, drop, map, length, Bool, true, false, cond, not, ◌&&◌, nat_lt, nat_le, Some, Ok, refl, sym, ap, ◌∙◌, arith, decimal, eqb-true, ltb-true, leb-true}
 use Rattle.std.specs.List.{list_all}
-use Rattle.std.proofs.lemmas.Bool.{and_parts, and_from, both_ways, ne_eqb, not-true}
+use Rattle.std.proofs.lemmas.Bool.{and_parts, and_from, not-true}
+use Rattle.std.proofs.lemmas.List.{length-drop, take-append-drop}
 use Rattle.poly_cells.specs.Coordinates.{Coordinates}
 use Rattle.poly_texts.specs.Limits.{most_piece_cells, most_size}
-use Rattle.poly_texts.specs.declared.need.Need.{Need}
-use Rattle.poly_texts.specs.declared.need.Need.TheVariants as needs
-use Rattle.poly_texts.specs.Needs.{is_must}
-use Rattle.poly_texts.specs.Words.{word_names, is_name, are_so_many, are_sizes, size_from}
-use Rattle.poly_texts.specs.Reading.{DraftValue, kept_shape, shape_of, some_repeated, taken_in, with_line, with_spare, range_line, copies_line, with_box, sized_box, piece_line, box_line, cells_line, maybe_cells_line, cut_line, mirror_line, any_line, maybe_line, words_line}
+use Rattle.poly_texts.specs.declared.usage.Usage.{Usage}
+use Rattle.poly_texts.specs.declared.usage.Usage.TheVariants as usages
+use Rattle.poly_texts.specs.Usages.{are_so_many, may_spare}
+use Rattle.poly_texts.specs.Kinds.{KindValue, kind_with, form_of}
+use Rattle.poly_texts.specs.Words.{is_name, are_sizes, size_from}
+use Rattle.poly_texts.specs.Reading.{DraftValue, kept_shape, shape_of, some_repeated, taken_in, with_kind, new_names, kind_line, copies_line, with_box, sized_box, piece_line, box_line, cells_line, maybe_cells_line, cut_line, mirror_line, any_line, maybe_line, words_line}
 use Rattle.poly_cells.specs.CellTests.{is_in_grid}
 use Rattle.poly_cells.specs.CellWords.{cell_word}
-use Rattle.poly_texts.specs.Grammar.{Line, piece, range, box, cells, cut, are_names, are_ranged, line_words, are_in_grid, are_apart, is_side, is_line}
-use Rattle.poly_texts.proofs.ReadingLemmas.{piece_read, names_found}
+use Rattle.poly_texts.specs.Grammar.{Line, kind, box, cells, cut, line_words, symbol_word, are_in_grid, are_apart, are_a_piece, are_symbols, is_side, is_line}
 use Rattle.poly_texts.proofs.PlusLemmas.{plus_none, plus_again}
 use Rattle.poly_texts.proofs.SpellingLemmas.{cells_again, piece_again, side_again}
-use Rattle.poly_texts.proofs.PartLemmas.{plus, is_small, is_fit, some_words, piece_parts}
+use Rattle.poly_texts.proofs.PartLemmas.{plus, is_small, is_fit, some_words}
 
 -- *a line that fits is taken*
 
@@ -23,65 +24,68 @@ shape_again : (cs : List Coordinates) → list_all is_in_grid cs ≡ true → ar
 unfolding shape_of
 shape_again cs p a l = rw (piece_again [] cs p a (omega arith)) refl
 
-names_again : (need : Need) (several : Bool) (names : List ℕ) → are_names need several names ≡ true → word_names need several names ≡ Some names
-names_again need several names h = rw (and_parts (is_must need || not several) (list_all is_name names && are_so_many need several (length names)) h).1 refl
+-- a kind within the limits, whose symbols are new
+record IsGood (s : DraftValue) (k : KindValue) : Type 0 where
+  named : list_all is_name k.symbols ≡ true
+  many : are_so_many k.usage (length k.symbols) ≡ true
+  spares : may_spare k.usage k.spare (length k.symbols) ≡ true
+  in_grid : list_all is_in_grid k.cells ≡ true
+  some : nat_lt 0 (length k.cells) ≡ true
+  apart : are_apart k.cells ≡ true
+  few : nat_le (length k.cells) most_piece_cells ≡ true
+  new : some_repeated (taken_in s) k.symbols ≡ false
 
-piece_again_line : (s : DraftValue) (need : Need) (several mirrored : Bool) (names : List ℕ) (cs : List Coordinates) → is_line (piece need several mirrored names cs) ≡ true → not (some_repeated (taken_in s) names) ≡ true → piece_line s need several mirrored (names ∷ map cell_word cs) ≡ Ok (with_line s need mirrored names (kept_shape cs))
-piece_again_line s need several mirrored names cs is fit =
-    let p = and_parts (are_names need several names) (are_in_grid cs && (are_apart cs && nat_le (length cs) most_piece_cells)) is in
-    let q = and_parts (are_in_grid cs) (are_apart cs && nat_le (length cs) most_piece_cells) p.1 in
-    let r = and_parts (are_apart cs) (nat_le (length cs) most_piece_cells) q.1 in
-    let u = and_parts (nat_lt 0 (length cs)) (list_all is_in_grid cs) q.0 in
-    piece_read s need several mirrored (names ∷ map cell_word cs) names (map cell_word cs) names (kept_shape cs) refl (some_words cs (ltb-true 0 (length cs) u.0))
-    (names_found (taken_in s) need several names names (sym (names_again need several names p.0)) (not-true _ fit)) (shape_again cs u.1 r.0 (leb-true (length cs) most_piece_cells r.1))
+good_parts : (s : DraftValue) (k : KindValue) → is_line (kind k) ≡ true → is_fit s (kind k) ≡ true → IsGood s k
+good_parts s k is fit =
+    let p = and_parts (are_symbols k) (are_a_piece k.cells) is in
+    let q = and_parts (list_all is_name k.symbols) (are_so_many k.usage (length k.symbols) && may_spare k.usage k.spare (length k.symbols)) p.0 in
+    let r = and_parts (are_so_many k.usage (length k.symbols)) (may_spare k.usage k.spare (length k.symbols)) q.1 in
+    let u = and_parts (are_in_grid k.cells) (are_apart k.cells && nat_le (length k.cells) most_piece_cells) p.1 in
+    let v = and_parts (are_apart k.cells) (nat_le (length k.cells) most_piece_cells) u.1 in
+    let w = and_parts (nat_lt 0 (length k.cells)) (list_all is_in_grid k.cells) u.0 in
+    record { named = q.0; many = r.0; spares = r.1; in_grid = w.1; some = w.0; apart = v.0; few = v.1; new = not-true _ fit }
 
-are_named : (need : Need) (several : Bool) (names : List ℕ) → are_names need several names ≡ true → list_all is_name names ≡ true
-are_named need several names h =
-    (and_parts (list_all is_name names) (are_so_many need several (length names))
-    (and_parts (is_must need || not several) (list_all is_name names && are_so_many need several (length names)) h).1).0
+-- a line of that kind, with its symbols as one word
+module _ (s : DraftValue) (usage : Usage) (mirrored : Bool) (symbols : List ℕ) (cs : List Coordinates) (spare : ℕ) (g : IsGood s (kind_with (form_of usage mirrored spare) symbols cs)) where
+  kind_again : kind_line s (form_of usage mirrored spare) symbols (map cell_word cs) ≡ Ok (with_kind s (kind_with (form_of usage mirrored spare) symbols (kept_shape cs)))
+  unfolding kind_line new_names
+  kind_again =
+      rw (some_words cs (ltb-true 0 (length cs) g.some), g.named, g.many, g.new, shape_again cs g.in_grid g.apart (leb-true (length cs) most_piece_cells g.few)) refl
 
-copies_again_line : (s : DraftValue) (mirrored : Bool) (names : List ℕ) (cs : List Coordinates) → is_line (piece needs.Must true mirrored names cs) ≡ true → not (some_repeated (taken_in s) names) ≡ true
-    → copies_line s mirrored (names ∷ map cell_word cs) ≡ Ok (with_line s needs.Must mirrored names (kept_shape cs))
+  piece_again_line : (spare ≡ 0) → piece_line s usage mirrored (symbol_word (kind_with (form_of usage mirrored spare) symbols cs) ∷ map cell_word cs) ≡ Ok (with_kind s (kind_with (form_of usage mirrored spare) symbols (kept_shape cs)))
+  unfolding piece_line
+  piece_again_line none =
+      let word : symbol_word (kind_with (form_of usage mirrored spare) symbols cs) ≡ symbols = rw none refl in
+      ap (λ w. kind_line s (form_of usage mirrored 0) w (map cell_word cs)) word ∙ ap (λ n. kind_line s (form_of usage mirrored n) symbols (map cell_word cs)) (sym none) ∙ kind_again
+
+-- a `copies` line, with a `+` or without
+copies_again : (s : DraftValue) (mirrored : Bool) (symbols : List ℕ) (cs : List Coordinates) (spare : ℕ) → IsGood s (kind_with (form_of usages.Copies mirrored spare) symbols cs)
+    → copies_line s mirrored (symbol_word (kind_with (form_of usages.Copies mirrored spare) symbols cs) ∷ map cell_word cs) ≡ Ok (with_kind s (kind_with (form_of usages.Copies mirrored spare) symbols (kept_shape cs)))
 unfolding copies_line
-copies_again_line s mirrored names cs is fit =
-    let p = and_parts (are_names needs.Must true names) (are_in_grid cs && (are_apart cs && nat_le (length cs) most_piece_cells)) is in
-    rw (plus_none names (are_named needs.Must true names p.0)) (piece_again_line s needs.Must true mirrored names cs is fit)
-
--- a line of which some pieces are spare is as a line of all of them
-as_piece : (mirrored : Bool) (names spare : List ℕ) (cs : List Coordinates) → is_line (range mirrored names spare cs) ≡ true
-    → (nat_lt 0 (length spare) ≡ true) × (is_line (piece needs.Must true mirrored (names ++ spare) cs) ≡ true)
-as_piece mirrored names spare cs is =
-    let cells = are_in_grid cs && (are_apart cs && nat_le (length cs) most_piece_cells) in
-    let p = and_parts (are_ranged names spare) cells is in
-    let q = and_parts (nat_lt 0 (length spare)) (are_names needs.Must true (names ++ spare)) p.0 in
-    (q.0, and_from (are_names needs.Must true (names ++ spare)) cells q.1 p.1)
-
-range_from_piece : (s : DraftValue) (mirrored : Bool) (needed spare : List ℕ) (words : List (List ℕ)) (t : DraftValue) → nat_lt 0 (length spare) ≡ true
-    → piece_line s needs.Must true mirrored ((needed ++ spare) ∷ words) ≡ Ok t → range_line s mirrored needed spare words ≡ Ok (with_spare t spare)
-unfolding range_line
-range_from_piece s mirrored needed spare words t some h =
-    let p = piece_parts s needs.Must true mirrored (needed ++ spare) words t h in
-    let lt = ltb-true 0 (length spare) some in
-    let none : (length spare == 0) ≡ false = ne_eqb (length spare) 0 (λ e. omega (arith, e, lt)) in
-    rw (p.0, none, p.1.1, p.1.2.1) (ap (λ u. Ok (with_spare u spare)) p.1.2.2)
-
-range_again_line : (s : DraftValue) (mirrored : Bool) (names spare : List ℕ) (cs : List Coordinates) → is_line (range mirrored names spare cs) ≡ true → not (some_repeated (taken_in s) (names ++ spare)) ≡ true
-    → copies_line s mirrored ((names ++ 43 ∷ spare) ∷ map cell_word cs) ≡ Ok (plus s (range mirrored names spare cs))
-unfolding copies_line
-range_again_line s mirrored names spare cs is fit =
-    let p = as_piece mirrored names spare cs is in
-    let good = (all_parts names spare (are_named needs.Must true (names ++ spare) (and_parts (are_names needs.Must true (names ++ spare)) (are_in_grid cs && (are_apart cs && nat_le (length cs) most_piece_cells)) p.1).0)).0 in
-    let w = plus_again spare names good in
-    rw (w.0, w.1, w.2)
-    (range_from_piece s mirrored names spare (map cell_word cs) (with_line s needs.Must mirrored (names ++ spare) (kept_shape cs)) p.0
-    (piece_again_line s needs.Must true mirrored (names ++ spare) cs p.1 fit))
+copies_again s mirrored symbols cs spare g = by_test (spare == 0) refl
   where
-    all_parts : (xs ys : List ℕ) → list_all is_name (xs ++ ys) ≡ true → (list_all is_name xs ≡ true) × (list_all is_name ys ≡ true)
-    all_parts [] ys h = (refl, h)
-    all_parts (x ∷ xs) ys h =
-        let p = and_parts (is_name x) (list_all is_name (xs ++ ys)) h in
-        let rest = all_parts xs ys p.1 in
-        (and_from (is_name x) (list_all is_name xs) p.0 rest.0, rest.1)
+    needed : List ℕ
+    needed = take (length symbols - spare) symbols
+
+    spared : List ℕ
+    spared = drop (length symbols - spare) symbols
+
+    all_parts : (xs ys : List ℕ) → list_all is_name (xs ++ ys) ≡ true → list_all is_name xs ≡ true
+    all_parts [] ys h = refl
+    all_parts (x ∷ xs) ys h = let p = and_parts (is_name x) (list_all is_name (xs ++ ys)) h in and_from (is_name x) (list_all is_name xs) p.0 (all_parts xs ys p.1)
+
+    by_test : (b : Bool) → (spare == 0) ≡ b
+        → copies_line s mirrored (cond b symbols (take (length symbols - spare) symbols ++ 43 ∷ drop (length symbols - spare) symbols) ∷ map cell_word cs) ≡ Ok (with_kind s (kind_with (form_of usages.Copies mirrored spare) symbols (kept_shape cs)))
+    by_test true e =
+        let none : spare ≡ 0 = eqb-true spare 0 e in
+        rw (plus_none symbols g.named) (ap (λ n. kind_line s (form_of usages.Copies mirrored n) symbols (map cell_word cs)) (sym none) ∙ kind_again s usages.Copies mirrored symbols cs spare g)
+    by_test false e =
+        let whole = take-append-drop (length symbols - spare) symbols in
+        let within = leb-true spare (length symbols) g.spares in
+        let l = length-drop (length symbols - spare) symbols in
+        let count : length (drop (length symbols - spare) symbols) ≡ spare = omega (arith, l, within) in
+        let w = plus_again (drop (length symbols - spare) symbols) (take (length symbols - spare) symbols) (all_parts (take (length symbols - spare) symbols) (drop (length symbols - spare) symbols) (rw whole g.named)) in
+        rw (w.0, w.1, w.2, count, e, whole) (kind_again s usages.Copies mirrored symbols cs spare g)
 
 box_again_line : (s : DraftValue) (a b c : ℕ) → is_line (box a b c) ≡ true → is_fit s (box a b c) ≡ true → box_line s (decimal a ∷ decimal b ∷ decimal c ∷ []) ≡ Ok (with_box s a b c)
 unfolding box_line
@@ -118,22 +122,21 @@ cut_again_line s cs is =
     let u = and_parts (nat_lt 0 (length cs)) (list_all is_in_grid cs) is in
     rw (some_words cs (ltb-true 0 (length cs) u.0), cells_again s.cut cs u.1) refl
 
-pub line_again : (s : DraftValue) (l : Line) → is_line l ≡ true → is_fit s l ≡ true → words_line s (line_words l) ≡ Ok (plus s l)
+kind_again_line : (s : DraftValue) (usage : Usage) (mirrored : Bool) (symbols : List ℕ) (spare : ℕ) (cs : List Coordinates) → IsGood s (kind_with (form_of usage mirrored spare) symbols cs)
+    → words_line s (line_words (kind (kind_with (form_of usage mirrored spare) symbols cs))) ≡ Ok (with_kind s (kind_with (form_of usage mirrored spare) symbols (kept_shape cs)))
 unfolding words_line maybe_line any_line mirror_line
-line_again s (piece needs.Must true true names cs) is fit = copies_again_line s true names cs is fit
-line_again s (piece needs.Must true false names cs) is fit = copies_again_line s false names cs is fit
-line_again s (piece needs.Must false true names cs) is fit = piece_again_line s needs.Must false true names cs is fit
-line_again s (piece needs.Must false false names cs) is fit = piece_again_line s needs.Must false false names cs is fit
-line_again s (piece needs.Maybe true true names cs) is fit = absurd (both_ways false refl is)
-line_again s (piece needs.Maybe true false names cs) is fit = absurd (both_ways false refl is)
-line_again s (piece needs.Maybe false true names cs) is fit = piece_again_line s needs.Maybe false true names cs is fit
-line_again s (piece needs.Maybe false false names cs) is fit = piece_again_line s needs.Maybe false false names cs is fit
-line_again s (piece needs.Any true true names cs) is fit = absurd (both_ways false refl is)
-line_again s (piece needs.Any true false names cs) is fit = absurd (both_ways false refl is)
-line_again s (piece needs.Any false true names cs) is fit = piece_again_line s needs.Any false true names cs is fit
-line_again s (piece needs.Any false false names cs) is fit = piece_again_line s needs.Any false false names cs is fit
-line_again s (range true names spare cs) is fit = range_again_line s true names spare cs is fit
-line_again s (range false names spare cs) is fit = range_again_line s false names spare cs is fit
+kind_again_line s usages.Once true symbols spare cs g = piece_again_line s usages.Once true symbols cs spare g (eqb-true spare 0 g.spares)
+kind_again_line s usages.Once false symbols spare cs g = piece_again_line s usages.Once false symbols cs spare g (eqb-true spare 0 g.spares)
+kind_again_line s usages.Maybe true symbols spare cs g = piece_again_line s usages.Maybe true symbols cs spare g (eqb-true spare 0 g.spares)
+kind_again_line s usages.Maybe false symbols spare cs g = piece_again_line s usages.Maybe false symbols cs spare g (eqb-true spare 0 g.spares)
+kind_again_line s usages.Any true symbols spare cs g = piece_again_line s usages.Any true symbols cs spare g (eqb-true spare 0 g.spares)
+kind_again_line s usages.Any false symbols spare cs g = piece_again_line s usages.Any false symbols cs spare g (eqb-true spare 0 g.spares)
+kind_again_line s usages.Copies true symbols spare cs g = copies_again s true symbols cs spare g
+kind_again_line s usages.Copies false symbols spare cs g = copies_again s false symbols cs spare g
+
+pub line_again : (s : DraftValue) (l : Line) → is_line l ≡ true → is_fit s l ≡ true → words_line s (line_words l) ≡ Ok (plus s l)
+unfolding words_line maybe_line
+line_again s (kind k) is fit = kind_again_line s k.usage k.mirrored k.symbols k.spare k.cells (good_parts s k is fit)
 line_again s (box a b c) is fit = box_again_line s a b c is fit
 line_again s (cells true cs) is fit = maybe_again_line s cs is fit
 line_again s (cells false cs) is fit = cells_again_line s cs is fit

@@ -1,19 +1,20 @@
 -- Names that are new, alone and after others.
-use Rattle.std.proofs.Common.{◌≡◌, ◌||◌, inl, inr, eq-eqb, eqb-true, ℕ, ◌==◌, List, [], ◌∷◌, ◌++◌, length, Bool, true, false, cond, not, nat_lt, refl, sym, ap, ap₂, ◌∙◌, subst, arith, lt-ltb}
+use Rattle.std.proofs.Common.{◌≡◌, ◌||◌, inl, inr, eq-eqb, eqb-true, ℕ, ◌==◌, List, [], ◌∷◌, ◌++◌, Bool, true, false, not, refl, sym, ap, ◌∙◌, subst, append-nil}
 use Rattle.std.specs.List.{list_any}
 use Rattle.std.specs.Cmp.{nat_eq_equiv}
 use Rattle.std.proofs.lemmas.Bool.{and_parts, and_from, or_parts, or_from, not-true, not_from_false, both_ways, false_from_ne_true}
 use Rattle.std.proofs.lemmas.List.Folds.{list_any-append}
-use Rattle.std.proofs.Math.Bool.{or-false}
+use Rattle.std.proofs.lemmas.Grind.{flat_map-append}
 use Rattle.poly_cells.specs.Coordinates.{Coordinates}
 use Rattle.poly_cells.specs.Sets.{IsIn}
 use Rattle.poly_cells.proofs.MemberLemmas.{some_passes, passes_some}
 use Rattle.poly_cells.proofs.SetLemmas.{in_append_left, in_append_right, in_append_cases}
-use Rattle.poly_texts.specs.Puzzle.{names_of, has_name, are_new}
-use Rattle.poly_texts.specs.declared.need.Need.{Need}
-use Rattle.poly_texts.specs.declared.need.Need.TheVariants as needs
-use Rattle.poly_texts.specs.Needs.{pieces_named}
-use Rattle.poly_texts.specs.Reading.{DraftValue, has_piece, taken_in, some_repeated, named_shapes, symbols_of, with_line}
+use Rattle.poly_texts.specs.Puzzle.{symbols_in, names_of, has_name, has_piece, are_new}
+use Rattle.poly_texts.specs.declared.usage.Usage.{Usage}
+use Rattle.poly_texts.specs.declared.usage.Usage.TheVariants as usages
+use Rattle.poly_texts.specs.Usages.{pieces_named}
+use Rattle.poly_texts.specs.Kinds.{KindValue, named_shapes}
+use Rattle.poly_texts.specs.Reading.{DraftValue, taken_in, some_repeated, with_kind}
 
 -- *members*
 
@@ -23,7 +24,7 @@ has_in ns n i = passes_some (λ m. m == n) n ns i (eq-eqb n n refl)
 pub in_has : (ns : List ℕ) (n : ℕ) → has_name ns n ≡ true → IsIn n ns
 in_has ns n h = let m = some_passes (λ k. k == n) ns h in subst (λ k. IsIn k ns) (eqb-true m.0 n m.2) m.1
 
-named_in : (pieces : List (ℕ × List Coordinates)) (n : ℕ) → has_piece pieces n ≡ has_name (names_of pieces) n
+pub named_in : (pieces : List (ℕ × List Coordinates)) (n : ℕ) → has_piece pieces n ≡ has_name (names_of pieces) n
 named_in [] n = refl
 named_in (p ∷ ps) n = rw (nat_eq_equiv.symm n p.0, named_in ps n) refl
 
@@ -98,55 +99,25 @@ module _ (taken later : ℕ → Bool) (ns ms : List ℕ) (so : (n : ℕ) → lat
             (false_from_ne_true _ (λ t. both_ways (has_name ms n) (apart.1 n (in_has ns n t)) (has_in ms n i)))),
       )
 
--- *what a line takes*
+-- *what a kind takes*
 
 -- the names of the pieces of a line are symbols of the line
-pub named_own : (need : Need) (names : List ℕ) (n : ℕ) → IsIn n (pieces_named need names) → IsIn n names
-named_own needs.Must names n i = i
-named_own needs.Maybe names n i = i
-named_own needs.Any [] n i = absurd i
-named_own needs.Any (m ∷ ms) n i = elim i [ inl e ↦ inl e | inr r ↦ absurd r ]
+pub named_own : (usage : Usage) (symbols : List ℕ) (n : ℕ) → IsIn n (pieces_named usage symbols) → IsIn n symbols
+named_own usages.Once symbols n i = i
+named_own usages.Maybe symbols n i = i
+named_own usages.Any [] n i = absurd i
+named_own usages.Any (m ∷ ms) n i = elim i [ inl e ↦ inl e | inr r ↦ absurd r ]
+named_own usages.Copies symbols n i = i
 
-pub named_keeps : (need : Need) (names : List ℕ) → are_new names ≡ true → are_new (pieces_named need names) ≡ true
-named_keeps needs.Must names h = h
-named_keeps needs.Maybe names h = h
-named_keeps needs.Any [] h = refl
-named_keeps needs.Any (n ∷ ns) h = refl
+pub named_keeps : (usage : Usage) (symbols : List ℕ) → are_new symbols ≡ true → are_new (pieces_named usage symbols) ≡ true
+named_keeps usages.Once symbols h = h
+named_keeps usages.Maybe symbols h = h
+named_keeps usages.Any [] h = refl
+named_keeps usages.Any (n ∷ ns) h = refl
+named_keeps usages.Copies symbols h = h
 
--- where none of the symbols is taken, no piece has one of these names
-pub laid_fresh : (s : DraftValue) (need : Need) (names : List ℕ) → some_repeated (taken_in s) names ≡ false → some_repeated (has_piece s.pieces) (pieces_named need names) ≡ false
-laid_fresh s need names h =
-    fresh_from (has_piece s.pieces) (pieces_named need names) (named_keeps need names (fresh_new (taken_in s) names h))
-    (λ n i. (or_parts (has_piece s.pieces n) (list_any (λ word. has_name word n) s.symbols) (fresh_each (taken_in s) names h n (named_own need names n i))).0)
-
--- the symbols of a line are those that name its pieces and those by which copies are shown
-line_taken : (need : Need) (names : List ℕ) (shape : List Coordinates) (n : ℕ)
-    → (has_piece (named_shapes (pieces_named need names) shape) n || list_any (λ word. has_name word n) (symbols_of need names)) ≡ has_name names n
-line_taken needs.Must names shape n = or-false _ ∙ named_in (named_shapes names shape) n ∙ ap (λ ns. has_name ns n) (shapes_named names shape)
-line_taken needs.Maybe names shape n = or-false _ ∙ named_in (named_shapes names shape) n ∙ ap (λ ns. has_name ns n) (shapes_named names shape)
-line_taken needs.Any [] shape n = refl
-line_taken needs.Any (m ∷ []) shape n = or-false _ ∙ named_in ((m, shape) ∷ []) n
-line_taken needs.Any (m ∷ k ∷ ks) shape n = by_test (nat_lt 1 (length (m ∷ k ∷ ks))) (lt-ltb 1 (length (m ∷ k ∷ ks)) (omega arith))
-  where
-    absorbed : (a b : Bool) → ((a || false) || ((a || b) || false)) ≡ (a || b)
-    absorbed true b = refl
-    absorbed false true = refl
-    absorbed false false = refl
-
-    by_test : (c : Bool) → c ≡ true → (has_piece ((m, shape) ∷ []) n || list_any (λ word. has_name word n) (cond c ((m ∷ k ∷ ks) ∷ []) [])) ≡ has_name (m ∷ k ∷ ks) n
-    by_test true e = ap (λ b. b || (has_name (m ∷ k ∷ ks) n || false)) (named_in ((m, shape) ∷ []) n) ∙ absorbed (m == n) (has_name (k ∷ ks) n)
-    by_test false e = absurd (cc)
-
-pub taken_more : (s : DraftValue) (need : Need) (mirrored : Bool) (names : List ℕ) (shape : List Coordinates) (n : ℕ)
-    → taken_in (with_line s need mirrored names shape) n ≡ (taken_in s n || has_name names n)
-taken_more s need mirrored names shape n =
-    ap₂ (λ (a b : Bool). a || b) (list_any-append (λ p. n == p.0) s.pieces (named_shapes (pieces_named need names) shape))
-    (list_any-append (λ word. has_name word n) s.symbols (symbols_of need names))
-    ∙ swapped (has_piece s.pieces n) (has_piece (named_shapes (pieces_named need names) shape) n) _ _
-    ∙ ap (λ b. taken_in s n || b) (line_taken need names shape n)
-  where
-    swapped : (a b c d : Bool) → ((a || b) || (c || d)) ≡ ((a || c) || (b || d))
-    swapped true b c d = refl
-    swapped false true true d = refl
-    swapped false true false d = refl
-    swapped false false c d = refl
+-- with one kind more its symbols are taken too
+pub taken_more : (s : DraftValue) (k : KindValue) (n : ℕ) → taken_in (with_kind s k) n ≡ (taken_in s n || has_name k.symbols n)
+taken_more s k n =
+    ap (λ ns. has_name ns n) (flat_map-append (λ j. j.symbols) s.kinds (k ∷ []) ∙ ap (λ ns. symbols_in s.kinds ++ ns) (append-nil k.symbols))
+    ∙ list_any-append (λ m. m == n) (symbols_in s.kinds) k.symbols

@@ -1,5 +1,5 @@
 -- A line that is taken is a line within the limits, and what it adds to what is said.
-use Rattle.std.proofs.Common.{◌≡◌, ◌≤◌, ◌==◌, ◌++◌, ℕ, List, [], ◌∷◌, drop, map, length, Bool, true, false, cond, not, ◌&&◌, nat_lt, nat_le, ◌||◌, Option, Some, None, Ok, Err, refl, sym, ap, ◌∙◌, subst, arith, codes, lt-ltb, le-leb}
+use Rattle.std.proofs.Common.{◌≡◌, ◌≤◌, ◌==◌, ◌-◌, ◌++◌, ap₂, ℕ, List, [], ◌∷◌, take, drop, map, length, Bool, true, false, cond, not, ◌&&◌, nat_lt, nat_le, ◌||◌, Option, Some, None, Ok, Err, refl, sym, ap, ◌∙◌, subst, arith, codes, length-append, le-leb}
 use Rattle.std.specs.List.{list_all}
 use Rattle.std.proofs.lemmas.Bool.{and_parts, and_from, or_right, or_parts, not-false, not_from_false}
 use Rattle.std.proofs.lemmas.Bool.Decides.{nat_tests}
@@ -11,20 +11,21 @@ use Rattle.poly_texts.specs.Limits.{most_piece_cells, most_region_cells, most_si
 use Rattle.poly_texts.specs.declared.fault.Fault.TheVariants.{BadLine, SecondBox, TooLarge}
 use Rattle.poly_texts.specs.declared.key.Key.{Key}
 use Rattle.poly_texts.specs.declared.key.Key.TheVariants as keys
-use Rattle.poly_texts.specs.declared.need.Need.{Need}
-use Rattle.poly_texts.specs.declared.need.Need.TheVariants as needs
+use Rattle.poly_texts.specs.declared.usage.Usage.{Usage}
+use Rattle.poly_texts.specs.declared.usage.Usage.TheVariants as usages
+use Rattle.poly_texts.specs.declared.form.Form.{Form}
 use Rattle.poly_texts.specs.Cells.{with_cells}
-use Rattle.poly_texts.specs.Needs.{is_must}
-use Rattle.poly_texts.specs.Words.{has_plus, before_plus, after_plus, are_sizes, are_small, is_size, size_from}
-use Rattle.poly_texts.specs.Reading.{DraftValue, kept_shape, shape_of, within, some_repeated, taken_in, with_line, new_names, add_cell, three_words, with_spare, range_line, copies_line, with_box, sized_box, piece_line, box_line, cells_line, maybe_cells_line, cut_line, key_from, mirror_keyed, mirror_line, any_keyed, any_line, maybe_keyed, maybe_line, keyed_line, words_line}
+use Rattle.poly_texts.specs.Usages.{are_so_many, may_spare}
+use Rattle.poly_texts.specs.Kinds.{kind_with, form_of}
+use Rattle.poly_texts.specs.Words.{is_name, has_plus, before_plus, after_plus, are_sizes, are_small, is_size, size_from}
+use Rattle.poly_texts.specs.Reading.{DraftValue, kept_shape, shape_of, within, some_repeated, taken_in, with_kind, kind_line, add_cell, three_words, range_line, copies_line, with_box, sized_box, piece_line, box_line, cells_line, maybe_cells_line, cut_line, key_from, mirror_keyed, mirror_line, any_keyed, any_line, maybe_keyed, maybe_line, keyed_line, words_line}
 use Rattle.poly_cells.specs.CellTests.{is_in_grid}
 use Rattle.poly_cells.specs.CellWords.{cell_word}
-use Rattle.poly_texts.specs.Grammar.{Line, piece, range, box, cells, cut, need_words, mirror_words, piece_word, are_names, line_words, are_in_grid, are_apart, is_line}
+use Rattle.poly_texts.specs.Grammar.{Line, kind, box, cells, cut, usage_words, mirror_words, piece_word, symbol_word, line_words, are_in_grid, are_apart, is_line}
 use Rattle.text_lines.proofs.ResultLemmas.{ok_is, no_fault, bind_ok, unrefused, granted, key_told}
-use Rattle.poly_texts.proofs.ReadingLemmas.{piece_read}
-use Rattle.poly_texts.proofs.PlusLemmas.{plus_is, drop_first}
+use Rattle.poly_texts.proofs.PlusLemmas.{plus_is, parted_again}
 use Rattle.poly_texts.proofs.SpellingLemmas.{words_same, cells_again, cells_are, piece_cells_are, side_is}
-use Rattle.poly_texts.proofs.PartLemmas.{plus, is_fit, some_cells, within_is, name_parts, shape_parts, piece_parts, names_is}
+use Rattle.poly_texts.proofs.PartLemmas.{plus, is_fit, some_cells, within_is, name_parts, shape_parts, kind_parts, names_is}
 
 -- *a line that is taken fits*
 
@@ -36,89 +37,58 @@ pub record IsTakenLine (s : DraftValue) (words : List (List ℕ)) (t : DraftValu
   pub fits : is_fit s line ≡ true
   pub more : t ≡ plus s line
 
-no_piece : (s : DraftValue) (need : Need) (several mirrored : Bool) (t : DraftValue) → piece_line s need several mirrored [] ≡ Ok t → ⊥
-unfolding piece_line
-no_piece s need several mirrored t h = no_fault BadLine t h
+-- no kind of one piece has spare ones
+may_none : (usage : Usage) (n : ℕ) → may_spare usage 0 n ≡ true
+may_none usages.Once n = refl
+may_none usages.Maybe n = refl
+may_none usages.Any n = refl
+may_none usages.Copies n = le-leb 0 n (omega arith)
 
-piece_taken : (s : DraftValue) (need : Need) (several mirrored : Bool) (words : List (List ℕ)) (t : DraftValue) → (is_must need || not several) ≡ true → piece_line s need several mirrored words ≡ Ok t → IsTakenLine s (need_words need (mirror_words mirrored (piece_word several ∷ words))) t
-piece_taken s need several mirrored [] t u h = absurd (no_piece s need several mirrored t h)
-piece_taken s need several mirrored (word ∷ words) t u h =
-    let p = piece_parts s need several mirrored word words t h in
-    let n = name_parts (taken_in s) need several word p.1.0 p.1.1 in
-    let w = names_is need several word p.1.0 u n.0 in
-    let k = shape_parts words p.1.2.0 p.1.2.1 in
+-- a kind that was taken is a line's, where its symbols are spelled so
+kind_taken : (s : DraftValue) (form : Form) (word spelled : List ℕ) (words : List (List ℕ)) (t : DraftValue) → may_spare form.usage form.spare (length word) ≡ true
+    → ((cs : List Coordinates) → spelled ≡ symbol_word (kind_with form word cs)) → kind_line s form word words ≡ Ok t
+    → IsTakenLine s (usage_words form.usage (mirror_words form.is_mirrored (piece_word form.usage ∷ spelled ∷ words))) t
+kind_taken s form word spelled words t spares spells h =
+    let p = kind_parts s form word words t h in
+    let n = name_parts (taken_in s) form.usage word word p.named in
+    let w = and_parts (list_all is_name word) (are_so_many form.usage (length word)) (names_is form.usage word word n.0).0 in
+    let k = shape_parts words p.shape p.shaped in
     let m = piece_cells_are [] words k.0 refl (omega arith) k.1 in
     let all : k.0 ≡ m.cs = m.all_are in
-    let some : is_empty (map cell_word m.cs) ≡ false = rw (← m.words_are) p.0 in
+    let some : is_empty (map cell_word m.cs) ≡ false = rw (← m.words_are) p.some in
+    let apart : are_apart m.cs ≡ true = subst (λ cs. are_apart cs ≡ true) all m.apart in
+    let few : length m.cs ≤ most_piece_cells = subst (λ cs. length cs ≤ most_piece_cells) all m.few in
     record {
-      line = piece need several mirrored p.1.0 m.cs;
-      words_are = ap (λ ws. need_words need (mirror_words mirrored (piece_word several ∷ ws))) (words_same w.1 m.words_are);
-      good = and_from _ _ w.0 (and_from _ _ (and_from _ _ (some_cells m.cs some) m.in_grid) (and_from _ _ (subst (λ cs. are_apart cs ≡ true) all m.apart) (le-leb (length m.cs) most_piece_cells (subst (λ cs. length cs ≤ most_piece_cells) all m.few))));
+      line = kind (kind_with form word m.cs);
+      words_are = ap (λ ws. usage_words form.usage (mirror_words form.is_mirrored (piece_word form.usage ∷ ws))) (words_same (spells m.cs) m.words_are);
+      good = and_from _ _ (and_from _ _ w.0 (and_from _ _ w.1 spares)) (and_from _ _ (and_from _ _ (some_cells m.cs some) m.in_grid) (and_from _ _ apart (le-leb (length m.cs) most_piece_cells few)));
       fits = not_from_false _ n.1;
-      more = sym p.1.2.2 ∙ ap (with_line s need mirrored p.1.0) (sym k.2 ∙ ap kept_shape all);
+      more = sym p.more ∙ ap (λ shape. with_kind s (kind_with form word shape)) (sym k.2 ∙ ap kept_shape all);
     }
 
--- a `copies` line with a `+`
-range_parts : (s : DraftValue) (mirrored : Bool) (needed spare : List ℕ) (words : List (List ℕ)) (t : DraftValue) → range_line s mirrored needed spare words ≡ Ok t →
-    (nat_lt 0 (length spare) ≡ true) × ((u : DraftValue) × (piece_line s needs.Must true mirrored ((needed ++ spare) ∷ words) ≡ Ok u) × (with_spare u spare ≡ t))
-unfolding range_line
-range_parts s mirrored needed spare words t h =
-    let later = new_names (taken_in s) needs.Must true (needed ++ spare) >>= λ names. shape_of words >>= λ shape. Ok (with_spare (with_line s needs.Must mirrored names shape) spare) in
-    let u = unrefused (is_empty words || (length spare == 0)) BadLine later t h in
-    let o = or_parts (is_empty words) (length spare == 0) u.0 in
-    let b = bind_ok (new_names (taken_in s) needs.Must true (needed ++ spare)) (λ names. shape_of words >>= λ shape. Ok (with_spare (with_line s needs.Must mirrored names shape) spare)) t u.1 in
-    let d = bind_ok (shape_of words) (λ shape. Ok (with_spare (with_line s needs.Must mirrored b.0 shape) spare)) t b.2 in (
-      lt-ltb 0 (length spare) (let n = o.1 in grind (arith, nat_tests)),
-      (with_line s needs.Must mirrored b.0 d.0, piece_read s needs.Must true mirrored ((needed ++ spare) ∷ words) (needed ++ spare) words b.0 d.0 refl o.0 b.1 d.1, ok_is (with_spare (with_line s needs.Must mirrored b.0 d.0) spare) t d.2),
-    )
-
--- the names of a line with a `+` are its symbols
-pub range_names : (taken : ℕ → Bool) (needed spare names : List ℕ) → new_names taken needs.Must true (needed ++ spare) ≡ Ok names → needed ++ spare ≡ names
-range_names taken needed spare names h =
-    let n = name_parts taken needs.Must true (needed ++ spare) names h in
-    (names_is needs.Must true (needed ++ spare) names refl n.0).1
-
--- a `copies` line with a `+` whose words gave these
-pub range_read : (s : DraftValue) (mirrored : Bool) (needed spare : List ℕ) (words : List (List ℕ)) (names : List ℕ) (shape : List Coordinates) → is_empty words ≡ false → (length spare == 0) ≡ false
-    → new_names (taken_in s) needs.Must true (needed ++ spare) ≡ Ok names → shape_of words ≡ Ok shape
-    → range_line s mirrored needed spare words ≡ Ok (with_spare (with_line s needs.Must mirrored names shape) (drop (length needed) names))
-unfolding range_line
-range_read s mirrored needed spare words names shape some more a b =
-    let e = range_names (taken_in s) needed spare names a in
-    let rest : drop (length needed) names ≡ spare = ap (drop (length needed)) (sym e) ∙ drop_first needed spare in
-    rw (some, more, a, b) (ap (λ ns. Ok (with_spare (with_line s needs.Must mirrored names shape) ns)) (sym rest))
-
--- what was taken as a line of pieces is taken as one of which some are spare
-range_taken : (s : DraftValue) (mirrored : Bool) (word : List ℕ) (words : List (List ℕ)) (t : DraftValue) → has_plus word ≡ true → range_line s mirrored (before_plus word) (after_plus word) words ≡ Ok t
-    → IsTakenLine s (mirror_words mirrored (codes "copies" ∷ word ∷ words)) t
-range_taken s mirrored word words t plus h =
-    let r = range_parts s mirrored (before_plus word) (after_plus word) words t h in
-    let all = before_plus word ++ after_plus word in
-    let p = piece_parts s needs.Must true mirrored all words r.1.0 r.1.1 in
-    let n = name_parts (taken_in s) needs.Must true all p.1.0 p.1.1 in
-    let w = names_is needs.Must true all p.1.0 refl n.0 in
-    let k = shape_parts words p.1.2.0 p.1.2.1 in
-    let m = piece_cells_are [] words k.0 refl (omega arith) k.1 in
-    let cells : k.0 ≡ m.cs = m.all_are in
-    let some : is_empty (map cell_word m.cs) ≡ false = rw (← m.words_are) p.0 in
-    record {
-      line = range mirrored (before_plus word) (after_plus word) m.cs;
-      words_are = ap (λ ws. mirror_words mirrored (codes "copies" ∷ ws)) (words_same (plus_is word plus) m.words_are);
-      good = and_from _ _ (and_from _ _ r.0 (subst (λ ns. are_names needs.Must true ns ≡ true) (sym w.1) w.0))
-          (and_from _ _ (and_from _ _ (some_cells m.cs some) m.in_grid) (and_from _ _ (subst (λ cs. are_apart cs ≡ true) cells m.apart) (le-leb (length m.cs) most_piece_cells (subst (λ cs. length cs ≤ most_piece_cells) cells m.few))));
-      fits = not_from_false _ (subst (λ ns. some_repeated (taken_in s) ns ≡ false) (sym w.1) n.1);
-      more = sym r.1.2 ∙ ap (λ u. with_spare u (after_plus word)) (sym p.1.2.2 ∙ ap (λ ns. with_line s needs.Must mirrored ns p.1.2.0) (sym w.1) ∙ ap (with_line s needs.Must mirrored all) (sym k.2 ∙ ap kept_shape cells));
-    }
+piece_taken : (s : DraftValue) (usage : Usage) (mirrored : Bool) (words : List (List ℕ)) (t : DraftValue) → piece_line s usage mirrored words ≡ Ok t → IsTakenLine s (usage_words usage (mirror_words mirrored (piece_word usage ∷ words))) t
+unfolding piece_line
+piece_taken s usage mirrored [] t h = absurd (no_fault BadLine t h)
+piece_taken s usage mirrored (word ∷ words) t h = kind_taken s (form_of usage mirrored 0) word word words t (may_none usage (length word)) (λ cs. refl) h
 
 copies_taken : (s : DraftValue) (mirrored : Bool) (words : List (List ℕ)) (t : DraftValue) → copies_line s mirrored words ≡ Ok t → IsTakenLine s (mirror_words mirrored (codes "copies" ∷ words)) t
 unfolding copies_line
 copies_taken s mirrored [] t h = absurd (no_fault BadLine t h)
 copies_taken s mirrored (word ∷ words) t h = by_test (has_plus word) refl h
   where
-    by_test : (b : Bool) → has_plus word ≡ b → cond b (range_line s mirrored (before_plus word) (after_plus word) words) (piece_line s needs.Must true mirrored (word ∷ words)) ≡ Ok t
+    by_test : (b : Bool) → has_plus word ≡ b → cond b (range_line s mirrored (before_plus word) (after_plus word) words) (kind_line s (form_of usages.Copies mirrored 0) word words) ≡ Ok t
         → IsTakenLine s (mirror_words mirrored (codes "copies" ∷ word ∷ words)) t
-    by_test true e g = range_taken s mirrored word words t e g
-    by_test false e g = piece_taken s needs.Must true mirrored (word ∷ words) t refl g
+    by_test true e g =
+        let first = before_plus word in
+        let spare = after_plus word in
+        let form = form_of usages.Copies mirrored (length spare) in
+        let u = unrefused (length spare == 0) BadLine (kind_line s form (first ++ spare) words) t g in
+        let l = length-append first spare in
+        let parts = parted_again first spare in
+        let spelled : word ≡ take (length (first ++ spare) - length spare) (first ++ spare) ++ 43 ∷ drop (length (first ++ spare) - length spare) (first ++ spare) =
+        plus_is word e ∙ ap₂ (λ (xs ys : List ℕ). xs ++ 43 ∷ ys) (sym parts.0) (sym parts.1) in
+        kind_taken s form (first ++ spare) word words t (le-leb (length spare) (length (first ++ spare)) (omega (arith, l))) (λ cs. spelled ∙ rw u.0 refl) u.1
+    by_test false e g = kind_taken s (form_of usages.Copies mirrored 0) word word words t (may_none usages.Copies (length word)) (λ cs. refl) g
 
 three_is : (words : List (List ℕ)) (a b c : List ℕ) → three_words words ≡ Some (a, b, c) → words ≡ a ∷ b ∷ c ∷ []
 three_is [] a b c h = absurd (cc)
@@ -224,22 +194,23 @@ key_is word k h =
     let first = key_told key_word word k in
     first keys.Piece _ (first keys.Box _ (first keys.Cells _ (first keys.Cut _ (first keys.Maybe _ (first keys.Any _ (first keys.Mirror _ (first keys.Copies None (λ e. absurd (none-some k e))))))))) h
 
-mirror_keyed_is : (s : DraftValue) (need : Need) (key : List ℕ) (words : List (List ℕ)) (t : DraftValue) (k : Option Key) → key_from key ≡ k → mirror_keyed k s need words ≡ Ok t → IsTakenLine s (need_words need (codes "mirror" ∷ key ∷ words)) t
+-- after `mirror`, before which a word of the use stands
+mirror_keyed_is : (s : DraftValue) (usage : Usage) (key : List ℕ) (words : List (List ℕ)) (t : DraftValue) (k : Option Key) → key_from key ≡ k → piece_word usage ≡ codes "piece" → mirror_keyed k s usage words ≡ Ok t → IsTakenLine s (usage_words usage (codes "mirror" ∷ key ∷ words)) t
 unfolding key_word
-mirror_keyed_is s need key words t (Some keys.Piece) e h = rw (key_is key keys.Piece e) (piece_taken s need false true words t (or_right (is_must need) true refl) h)
-mirror_keyed_is s needs.Must key words t (Some keys.Copies) e h = rw (key_is key keys.Copies e) (copies_taken s true words t h)
-mirror_keyed_is s need key words t _ e h = absurd (no_fault BadLine t h)
+mirror_keyed_is s usage key words t (Some keys.Piece) e one h = subst (λ first. IsTakenLine s (usage_words usage (codes "mirror" ∷ first ∷ words)) t) (one ∙ sym (key_is key keys.Piece e)) (piece_taken s usage true words t h)
+mirror_keyed_is s usages.Once key words t (Some keys.Copies) e one h = rw (key_is key keys.Copies e) (copies_taken s true words t h)
+mirror_keyed_is s usage key words t _ e one h = absurd (no_fault BadLine t h)
 
-mirror_is : (s : DraftValue) (need : Need) (words : List (List ℕ)) (t : DraftValue) → mirror_line s need words ≡ Ok t → IsTakenLine s (need_words need (codes "mirror" ∷ words)) t
+mirror_is : (s : DraftValue) (usage : Usage) (words : List (List ℕ)) (t : DraftValue) → piece_word usage ≡ codes "piece" → mirror_line s usage words ≡ Ok t → IsTakenLine s (usage_words usage (codes "mirror" ∷ words)) t
 unfolding mirror_line
-mirror_is s need [] t h = absurd (no_fault BadLine t h)
-mirror_is s need (key ∷ words) t h = mirror_keyed_is s need key words t (key_from key) refl h
+mirror_is s usage [] t one h = absurd (no_fault BadLine t h)
+mirror_is s usage (key ∷ words) t one h = mirror_keyed_is s usage key words t (key_from key) refl one h
 
 maybe_keyed_is : (s : DraftValue) (key : List ℕ) (words : List (List ℕ)) (t : DraftValue) (k : Option Key) → key_from key ≡ k → maybe_keyed k s words ≡ Ok t → IsTakenLine s (codes "maybe" ∷ key ∷ words) t
 unfolding key_word
-maybe_keyed_is s key words t (Some keys.Piece) e h = rw (key_is key keys.Piece e) (piece_taken s needs.Maybe false false words t refl h)
+maybe_keyed_is s key words t (Some keys.Piece) e h = rw (key_is key keys.Piece e) (piece_taken s usages.Maybe false words t h)
 maybe_keyed_is s key words t (Some keys.Cells) e h = rw (key_is key keys.Cells e) (maybe_taken s words t h)
-maybe_keyed_is s key words t (Some keys.Mirror) e h = rw (key_is key keys.Mirror e) (mirror_is s needs.Maybe words t h)
+maybe_keyed_is s key words t (Some keys.Mirror) e h = rw (key_is key keys.Mirror e) (mirror_is s usages.Maybe words t refl h)
 maybe_keyed_is s key words t _ e h = absurd (no_fault BadLine t h)
 
 maybe_is : (s : DraftValue) (words : List (List ℕ)) (t : DraftValue) → maybe_line s words ≡ Ok t → IsTakenLine s (codes "maybe" ∷ words) t
@@ -249,8 +220,8 @@ maybe_is s (key ∷ words) t h = maybe_keyed_is s key words t (key_from key) ref
 
 any_keyed_is : (s : DraftValue) (key : List ℕ) (words : List (List ℕ)) (t : DraftValue) (k : Option Key) → key_from key ≡ k → any_keyed k s words ≡ Ok t → IsTakenLine s (codes "any" ∷ key ∷ words) t
 unfolding key_word
-any_keyed_is s key words t (Some keys.Piece) e h = rw (key_is key keys.Piece e) (piece_taken s needs.Any false false words t refl h)
-any_keyed_is s key words t (Some keys.Mirror) e h = rw (key_is key keys.Mirror e) (mirror_is s needs.Any words t h)
+any_keyed_is s key words t (Some keys.Piece) e h = rw (key_is key keys.Piece e) (piece_taken s usages.Any false words t h)
+any_keyed_is s key words t (Some keys.Mirror) e h = rw (key_is key keys.Mirror e) (mirror_is s usages.Any words t refl h)
 any_keyed_is s key words t _ e h = absurd (no_fault BadLine t h)
 
 any_is : (s : DraftValue) (words : List (List ℕ)) (t : DraftValue) → any_line s words ≡ Ok t → IsTakenLine s (codes "any" ∷ words) t
@@ -261,13 +232,13 @@ any_is s (key ∷ words) t h = any_keyed_is s key words t (key_from key) refl h
 keyed_is : (s : DraftValue) (key : List ℕ) (words : List (List ℕ)) (t : DraftValue) (k : Option Key) → key_from key ≡ k → keyed_line k s words ≡ Ok t → IsTakenLine s (key ∷ words) t
 unfolding key_word
 keyed_is s key words t None e h = absurd (no_fault BadLine t h)
-keyed_is s key words t (Some keys.Piece) e h = rw (key_is key keys.Piece e) (piece_taken s needs.Must false false words t refl h)
+keyed_is s key words t (Some keys.Piece) e h = rw (key_is key keys.Piece e) (piece_taken s usages.Once false words t h)
 keyed_is s key words t (Some keys.Box) e h = rw (key_is key keys.Box e) (box_parts s words t h)
 keyed_is s key words t (Some keys.Cells) e h = rw (key_is key keys.Cells e) (cells_taken s words t h)
 keyed_is s key words t (Some keys.Cut) e h = rw (key_is key keys.Cut e) (cut_taken s words t h)
 keyed_is s key words t (Some keys.Maybe) e h = rw (key_is key keys.Maybe e) (maybe_is s words t h)
 keyed_is s key words t (Some keys.Any) e h = rw (key_is key keys.Any e) (any_is s words t h)
-keyed_is s key words t (Some keys.Mirror) e h = rw (key_is key keys.Mirror e) (mirror_is s needs.Must words t h)
+keyed_is s key words t (Some keys.Mirror) e h = rw (key_is key keys.Mirror e) (mirror_is s usages.Once words t refl h)
 keyed_is s key words t (Some keys.Copies) e h = rw (key_is key keys.Copies e) (copies_taken s false words t h)
 
 -- a line with words that is taken is a line that fits

@@ -1,5 +1,5 @@
 -- Names of pieces: how many there can be, and in which order those are that may be left out.
-use Rattle.std.proofs.Common.{take, cond, ap₂, inl, inr, ◌≡◌, ◌<◌, ◌≤◌, ℕ, ◌+◌, ◌==◌, List, [], ◌∷◌, ◌++◌, filter, flat_map, length, Bool, true, false, not, ◌&&◌, ◌||◌, nat_eq, nat_le, refl, sym, ap, ◌∙◌, arith, eq-eqb, eqb-true}
+use Rattle.std.proofs.Common.{cond, ap₂, inl, inr, ◌≡◌, ◌<◌, ◌≤◌, ℕ, ◌+◌, ◌==◌, List, [], ◌∷◌, ◌++◌, filter, flat_map, length, Bool, true, false, not, ◌&&◌, ◌||◌, nat_eq, nat_le, refl, sym, ap, ◌∙◌, subst, arith, eq-eqb, eqb-true}
 use Rattle.std.specs.List.{list_all, list_any, range_with_len, IsDistinct, AllByRecursion}
 use Rattle.std.specs.Cmp.{nat_eq_equiv}
 use Rattle.std.proofs.lemmas.Bool.{or_left, and_parts, or_right, not-true, false_from_ne_true, both_ways}
@@ -10,14 +10,14 @@ use Rattle.std.proofs.lemmas.Map.Made.{length-le_from_is_member}
 use Rattle.poly_cells.specs.Coordinates.{Coordinates}
 use Rattle.poly_texts.specs.Limits.{most_pieces}
 use Rattle.poly_texts.specs.Words.{is_name}
-use Rattle.poly_texts.specs.Puzzle.{names_of, has_name, are_new}
-use Rattle.poly_texts.specs.Grammar.{Line, piece, range, box, cells, cut, piece_of, maybe_name_of, taken_by}
-use Rattle.poly_texts.specs.declared.need.Need.TheVariants as needs
+use Rattle.poly_texts.specs.Usages.{is_maybe}
+use Rattle.poly_texts.specs.Kinds.{KindValue, given_if, kind_names, kind_maybe, IsPiece}
+use Rattle.poly_texts.specs.Puzzle.{PuzzleValue, pieces_of, maybe_names, symbols_in, names_of, has_name, are_new, ArePieces, IsPuzzle}
 use Rattle.poly_texts.proofs.FreshLemmas.{has_in, in_has}
+use Rattle.poly_texts.proofs.KindLemmas.{in_if, given_own, names_own, own_among, new_rest, not_later, names_flat, names_are, names_new, piece_in}
 use Rattle.poly_cells.specs.Sets.{IsIn}
-use Rattle.poly_cells.proofs.MemberLemmas.{passes, some_passes, passes_some, in_to_range}
+use Rattle.poly_cells.proofs.MemberLemmas.{passes, some_passes, passes_some, all_pass, in_flat_map, in_from_flat_map, in_to_range}
 use Rattle.poly_cells.proofs.SetLemmas.{all_from_in}
-use Rattle.poly_texts.proofs.LineNameLemmas.{laid_names, names_flat, laid_own, maybe_own, own_among, NewNames, new_rest, not_later}
 
 -- *how many there can be*
 
@@ -89,31 +89,48 @@ filter_none test (x ∷ xs) h = ap₂ (λ (b : Bool) (zs : List ℕ). cond b (x 
 has_joined : (xs ys : List ℕ) (n : ℕ) → has_name (xs ++ ys) n ≡ (has_name xs n || has_name ys n)
 has_joined xs ys n = list_any-append (λ m. m == n) xs ys
 
-own_kept_by : (later : List ℕ) (l : Line) → ((n : ℕ) → IsIn n (laid_names l) → has_name later n ≡ true → ⊥) → filter (has_name (maybe_name_of l ++ later)) (laid_names l) ≡ maybe_name_of l
-unfolding laid_names
-own_kept_by later (piece needs.Must several mirrored names cs) out = filter_none _ names (λ n i. false_from_ne_true _ (out n i))
-own_kept_by later (piece needs.Maybe several mirrored names cs) out = filter_all _ names (λ n i. has_joined names later n ∙ or_left _ _ (has_in names n i))
-own_kept_by later (piece needs.Any several mirrored names cs) out = filter_none _ (take 1 names) (λ n i. false_from_ne_true _ (out n i))
-own_kept_by later (range mirrored names spare cs) out = filter_none _ (names ++ spare) (λ n i. false_from_ne_true _ (out n i))
-own_kept_by later (box a b c) out = refl
-own_kept_by later (cells optional cs) out = refl
-own_kept_by later (cut cs) out = refl
+-- of the names of a kind, those that may be left out, where none of them may be later
+kept_by : (later : List ℕ) (b : Bool) (names : List ℕ) → ((n : ℕ) → IsIn n names → has_name later n ≡ true → ⊥) → filter (has_name (given_if b names ++ later)) names ≡ given_if b names
+kept_by later true names out = filter_all _ names (λ n i. has_joined names later n ∙ or_left _ _ (has_in names n i))
+kept_by later false names out = filter_none _ names (λ n i. false_from_ne_true _ (out n i))
 
-left_order : (ls : List Line) → NewNames ls → flat_map maybe_name_of ls ≡ filter (has_name (flat_map maybe_name_of ls)) (flat_map laid_names ls)
+left_order : (ks : List KindValue) → are_new (symbols_in ks) ≡ true → flat_map kind_maybe ks ≡ filter (has_name (flat_map kind_maybe ks)) (flat_map kind_names ks)
 left_order [] h = refl
-left_order (l ∷ ls) h =
-    let kept = maybe_name_of l in
-    let later = flat_map maybe_name_of ls in
-    let rest : filter (has_name (kept ++ later)) (flat_map laid_names ls) ≡ later =
-    filter_same (has_name (kept ++ later)) (has_name later) (flat_map laid_names ls)
-    (λ n i. has_joined kept later n ∙ ap (λ b. b || has_name later n) (false_from_ne_true _ (λ t. apart l ls h n (maybe_own l n (in_has kept n t)) i)))
-    ∙ sym (left_order ls (new_rest l ls h)) in
-    let first : filter (has_name (kept ++ later)) (laid_names l) ≡ kept = own_kept_by later l (λ n i t. apart l ls h n i (own_among maybe_name_of laid_names maybe_own ls n (in_has later n t))) in
-    sym (filter_append (has_name (kept ++ later)) (laid_names l) (flat_map laid_names ls) ∙ ap₂ (λ (xs ys : List ℕ). xs ++ ys) first rest)
-  where
-    apart : (l : Line) (ls : List Line) → NewNames (l ∷ ls) → (n : ℕ) → IsIn n (laid_names l) → IsIn n (flat_map laid_names ls) → ⊥
-    apart l ls h n i j = not_later l ls h n (laid_own l n i) (own_among laid_names taken_by laid_own ls n j)
+left_order (k ∷ ks) h =
+    let kept = kind_maybe k in
+    let later = flat_map kind_maybe ks in
+    let own = given_own (λ j. is_maybe j.usage) in
+    let rest : filter (has_name (kept ++ later)) (flat_map kind_names ks) ≡ later =
+    filter_same (has_name (kept ++ later)) (has_name later) (flat_map kind_names ks)
+    (λ n i. has_joined kept later n ∙ ap (λ b. b || has_name later n) (false_from_ne_true _ (λ t. not_later k ks h n (own k n (in_has kept n t)) (own_among kind_names names_own ks n i))))
+    ∙ sym (left_order ks (new_rest k ks h)) in
+    let first : filter (has_name (kept ++ later)) (kind_names k) ≡ kept =
+    kept_by later (is_maybe k.usage) (kind_names k) (λ n i t. not_later k ks h n (names_own k n i) (own_among kind_maybe own ks n (in_has later n t))) in
+    sym (filter_append (has_name (kept ++ later)) (kind_names k) (flat_map kind_names ks) ∙ ap₂ (λ (xs ys : List ℕ). xs ++ ys) first rest)
 
--- the names that may be left out are in the order of the pieces
-pub maybe_in_order : (ls : List Line) → NewNames ls → flat_map maybe_name_of ls ≡ filter (has_name (flat_map maybe_name_of ls)) (names_of (flat_map piece_of ls))
-maybe_in_order ls h = rw names_flat (left_order ls h)
+-- *the names of a puzzle*
+
+module _ (p : PuzzleValue) (z : IsPuzzle p) where
+  pub pieces_named : list_all is_name (names_of (pieces_of p)) ≡ true
+  unfolding pieces_of
+  pieces_named = names_are p.kinds z.kinds_are
+
+  pub pieces_new : are_new (names_of (pieces_of p)) ≡ true
+  unfolding pieces_of
+  pieces_new = names_new p.kinds z.new
+
+  pub pieces_shaped : ArePieces (pieces_of p)
+  unfolding pieces_of
+  pieces_shaped q i = let k = piece_in p.kinds q.0 q.1 i in subst IsPiece (sym k.3) (z.kinds_are k.0 k.1).piece
+
+  -- the names that may be left out are those of pieces, in their order
+  pub maybe_named : list_all (has_name (names_of (pieces_of p))) (maybe_names p) ≡ true
+  unfolding pieces_of maybe_names
+  maybe_named =
+      rw names_flat (all_pass (has_name (flat_map kind_names p.kinds)) (flat_map kind_maybe p.kinds) (λ n i.
+      let k = in_from_flat_map kind_maybe n p.kinds i in
+      has_in (flat_map kind_names p.kinds) n (in_flat_map kind_names n k.0 p.kinds k.1 (in_if (is_maybe k.0.usage) n (kind_names k.0) k.2).1)))
+
+  pub maybe_in_order : maybe_names p ≡ filter (has_name (maybe_names p)) (names_of (pieces_of p))
+  unfolding pieces_of maybe_names
+  maybe_in_order = rw names_flat (left_order p.kinds z.new)

@@ -1,5 +1,5 @@
--- The cells of pieces and of the region are within the limits, and pieces lie at the origin.
-use Rattle.std.proofs.Common.{◌++◌, ◌≡◌, ◌<◌, ◌≤◌, inl, inr, ℕ, ◌+◌, List, [], ◌∷◌, flat_map, length, true, not, ◌&&◌, nat_lt, nat_le, sym, subst, arith}
+-- The cells of pieces and of the region are within the limits, pieces lie at the origin, and what lines say of pieces are kinds.
+use Rattle.std.proofs.Common.{◌++◌, ◌≡◌, ◌<◌, ◌≤◌, inl, inr, ℕ, ◌+◌, List, [], ◌∷◌, flat_map, length, true, not, ◌&&◌, nat_lt, nat_le, refl, sym, ap, subst, arith}
 use Rattle.std.specs.List.{list_all, range_with_len}
 use Rattle.std.proofs.lemmas.Bool.{and_parts}
 use Rattle.std.proofs.lemmas.Bool.Decides.{nat_tests}
@@ -8,9 +8,9 @@ use Rattle.std.specs.declared.cmp.Ordering.{Ordering}
 use Rattle.std.specs.declared.cmp.Ordering.TheVariants.{Less, Equal, Greater}
 use Rattle.poly_cells.proofs.MemberLemmas.{in_from_flat_map, in_from_filter, in_from_range, passes}
 use Rattle.poly_cells.specs.Coordinates.{Coordinates, IsInGrid, coordinates, coordinates_cmp}
-use Rattle.poly_cells.specs.Sets.{in_order, insert_in, by_order}
+use Rattle.poly_cells.specs.Sets.{IsIn, in_order, insert_in, by_order}
 use Rattle.poly_cells.specs.Shapes.{AllInGrid, corner, moved_back, normal}
-use Rattle.poly_cells.proofs.SetLemmas.{in_append_cases, in_from_map, in_from_order, in_order_rises}
+use Rattle.poly_cells.proofs.SetLemmas.{in_from_map, in_from_order, in_order_rises}
 use Rattle.poly_cells.proofs.CoordinateLemmas.{coordinates_total}
 use Rattle.poly_cells.proofs.ShapeLemmas.{normal_is_shape}
 use Rattle.poly_cells.proofs.ImageLemmas.{normal_is}
@@ -18,10 +18,12 @@ use Rattle.poly_cells.specs.CellTests.{has_cell, is_in_grid}
 use Rattle.poly_cells.proofs.CellTestLemmas.{all_in_grid_from}
 use Rattle.poly_texts.specs.Limits.{most_piece_cells, most_size}
 use Rattle.poly_texts.specs.Cells.{without, row, layer, box_cells}
-use Rattle.poly_texts.specs.Puzzle.{IsPiece, ArePieces}
-use Rattle.poly_texts.specs.Needs.{pieces_named}
-use Rattle.poly_texts.specs.Reading.{kept_shape, named_shapes}
-use Rattle.poly_texts.specs.Grammar.{Line, piece, range, box, cells, are_in_grid, are_apart, are_names, are_ranged, is_side, is_line, piece_of, named_by}
+use Rattle.poly_texts.specs.Usages.{are_so_many, may_spare}
+use Rattle.poly_texts.specs.Words.{is_name}
+use Rattle.poly_texts.specs.Kinds.{IsPiece, IsKind}
+use Rattle.poly_texts.specs.Puzzle.{symbols_in, AreKinds}
+use Rattle.poly_texts.specs.Reading.{kept_shape}
+use Rattle.poly_texts.specs.Grammar.{Line, kind, box, cells, cut, are_in_grid, are_apart, are_a_piece, are_symbols, is_side, is_line, kinds_by, taken_by, named_by}
 use Rattle.poly_texts.proofs.StepLemmas.{some_in_order}
 
 -- *members of lists*
@@ -91,29 +93,27 @@ piece_is cs good short =
       origin = (normal_is (in_order coordinates_cmp cs) some limits).origin;
     }
 
--- the pieces that lines say are pieces
-pub pieces_are : (ls : List Line) → list_all is_line ls ≡ true → ArePieces (flat_map piece_of ls)
-pieces_are [] h = λ p i. absurd i
-pieces_are (piece need several mirrored names cs ∷ ls) h =
-    let a = and_parts (is_line (piece need several mirrored names cs)) (list_all is_line ls) h in
-    let b = and_parts (are_names need several names) (are_in_grid cs && (are_apart cs && nat_le (length cs) most_piece_cells)) a.0 in
-    let c = and_parts (are_in_grid cs) (are_apart cs && nat_le (length cs) most_piece_cells) b.1 in
-    let d = and_parts (are_apart cs) (nat_le (length cs) most_piece_cells) c.1 in
-    λ p i. elim (in_append_cases p (named_shapes (pieces_named need names) (kept_shape cs)) (flat_map piece_of ls) i) [
-      | inl l ↦
-          let n = in_from_map (λ k. (k, kept_shape cs)) p (pieces_named need names) l in
-          subst (λ (q : ℕ × List Coordinates). IsPiece q.1) (sym n.2) (piece_is cs c.0 d.1)
-      | inr r ↦ pieces_are ls a.1 p r
-    ]
-pieces_are (range mirrored names spare cs ∷ ls) h =
-    let a = and_parts (is_line (range mirrored names spare cs)) (list_all is_line ls) h in
-    let b = and_parts (are_ranged names spare) (are_in_grid cs && (are_apart cs && nat_le (length cs) most_piece_cells)) a.0 in
-    let c = and_parts (are_in_grid cs) (are_apart cs && nat_le (length cs) most_piece_cells) b.1 in
-    let d = and_parts (are_apart cs) (nat_le (length cs) most_piece_cells) c.1 in
-    λ p i. elim (in_append_cases p (named_shapes (names ++ spare) (kept_shape cs)) (flat_map piece_of ls) i) [
-      | inl l ↦
-          let n = in_from_map (λ k. (k, kept_shape cs)) p (names ++ spare) l in
-          subst (λ (q : ℕ × List Coordinates). IsPiece q.1) (sym n.2) (piece_is cs c.0 d.1)
-      | inr r ↦ pieces_are ls a.1 p r
-    ]
-pieces_are (l ∷ ls) h = pieces_are ls (and_parts (is_line l) (list_all is_line ls) h).1
+-- the kinds that lines say are kinds
+pub kinds_are : (ls : List Line) → list_all is_line ls ≡ true → AreKinds (flat_map kinds_by ls)
+kinds_are ls h k i = let l = in_from_flat_map kinds_by k ls i in one l.0 (passes is_line ls h l.0 l.1) l.2
+  where
+    one : (l : Line) → is_line l ≡ true → IsIn k (kinds_by l) → IsKind k
+    one (kind j) good (inl e) =
+        let p = and_parts (are_symbols j) (are_a_piece j.cells) good in
+        let q = and_parts (list_all is_name j.symbols) (are_so_many j.usage (length j.symbols) && may_spare j.usage j.spare (length j.symbols)) p.0 in
+        let r = and_parts (are_so_many j.usage (length j.symbols)) (may_spare j.usage j.spare (length j.symbols)) q.1 in
+        let c = and_parts (are_in_grid j.cells) (are_apart j.cells && nat_le (length j.cells) most_piece_cells) p.1 in
+        let d = and_parts (are_apart j.cells) (nat_le (length j.cells) most_piece_cells) c.1 in
+        subst IsKind (sym e) (record { named = q.0; many = r.0; spares = r.1; piece = piece_is j.cells c.0 d.1 })
+    one (kind j) good (inr r) = absurd r
+    one (box a b c) good j = absurd j
+    one (cells optional cs) good j = absurd j
+    one (cut cs) good j = absurd j
+
+-- their symbols are those that the lines take
+pub symbols_same : (ls : List Line) → symbols_in (flat_map kinds_by ls) ≡ flat_map taken_by ls
+symbols_same [] = refl
+symbols_same (kind k ∷ ls) = ap (λ ns. k.symbols ++ ns) (symbols_same ls)
+symbols_same (box a b c ∷ ls) = symbols_same ls
+symbols_same (cells optional cs ∷ ls) = symbols_same ls
+symbols_same (cut cs ∷ ls) = symbols_same ls

@@ -1,9 +1,10 @@
 -- A word with a `+` is the symbols before it, the `+`, and the symbols after it.
-use Rattle.std.proofs.Common.{◌≡◌, ◌<◌, ℕ, suc, ◌+◌, ◌==◌, List, [], ◌∷◌, ◌++◌, take, drop, length, get_or, true, false, cond, not, refl, sym, ap, ◌∙◌, subst, arith, eqb-true, ltb-true, lt-ltb}
+use Rattle.std.proofs.Common.{◌≡◌, ◌<◌, ℕ, suc, ◌+◌, ◌-◌, ◌==◌, List, [], ◌∷◌, ◌++◌, take, drop, length, get_or, true, false, cond, not, refl, sym, ap, ◌∙◌, subst, arith, eqb-true, ltb-true, lt-ltb, length-append}
 use Rattle.std.specs.List.{list_all, position_or_len}
 use Rattle.std.proofs.lemmas.Bool.{and_parts, both_ways, false_from_ne_true}
 use Rattle.std.proofs.lemmas.List.{drop_more, take-append-drop}
 use Rattle.std.proofs.lemmas.List.Sums.{passes_at_first}
+use Rattle.std.proofs.Math.Seq.{drop-append_seam}
 use Rattle.poly_texts.specs.Words.{is_name, plus_at, has_plus, before_plus, after_plus}
 
 take_front : (xs ys : List ℕ) → take (length xs) (xs ++ ys) ≡ xs
@@ -66,7 +67,9 @@ plus_is word h =
     let here : get_or word k 0 ≡ 43 = eqb-true (get_or word k 0) 43 (passes_at_first (λ b. b == 43) word 0 within) in
     sym (take-append-drop k word) ∙ ap (λ rest. take k word ++ rest) (drop_more word k 0 within ∙ ap (λ b. b ∷ drop (k + 1) word) here)
 
--- what comes after the first names of some
-pub drop_first : (names spare : List ℕ) → drop (length names) (names ++ spare) ≡ spare
-drop_first [] spare = refl
-drop_first (n ∷ ns) spare = drop_first ns spare
+-- first ones and others are parted again
+pub parted_again : (xs ys : List ℕ) → (take (length (xs ++ ys) - length ys) (xs ++ ys) ≡ xs) × (drop (length (xs ++ ys) - length ys) (xs ++ ys) ≡ ys)
+parted_again xs ys =
+    let l = length-append xs ys in
+    let e : length (xs ++ ys) - length ys ≡ length xs = omega (arith, l) in
+    (ap (λ n. take n (xs ++ ys)) e ∙ take_front xs ys, ap (λ n. drop n (xs ++ ys)) e ∙ drop-append_seam xs ys)

@@ -1,16 +1,19 @@
 -- How the reader's steps give what a text says.
-use Rattle.std.proofs.Common.{◌+◌, ◌<◌, length, get_or, drop, take, sym, ◌∙◌, append_assoc, ◌≡◌, ℕ, ◌==◌, List, [], ◌∷◌, ◌++◌, Bool, true, false, cond, ◌||◌, Some, None, is_some, Ok, refl, ap}
-use Rattle.std.specs.Map.{lookup}
-use Rattle.std.proofs.lemmas.Bool.{or_parts, or_from}
-use Rattle.std.proofs.lemmas.List.{drop_more, take_more, map-append}
+use Rattle.std.proofs.Common.{◌+◌, ◌<◌, length, get_or, drop, take, flat_map, sym, ◌∙◌, append_assoc, ◌≡◌, ℕ, ◌==◌, List, [], ◌∷◌, ◌++◌, Bool, true, false, cond, ◌||◌, Some, None, refl, ap, subst}
+use Rattle.std.proofs.lemmas.Bool.{or_parts, or_from, false_from_ne_true, both_ways}
+use Rattle.std.proofs.lemmas.Grind.{flat_map-append}
+use Rattle.std.proofs.lemmas.List.{drop_more, take_more, take-append-drop, map-append}
 use Rattle.std.proofs.lemmas.List.Folds.{list_any-append}
-use Rattle.poly_texts.specs.Puzzle.{has_name}
 use Rattle.indexmap.specs.IndexMap.{insert_entry}
 use Rattle.text_lines.specs.Lines.{is_empty}
 use Rattle.poly_cells.specs.Coordinates.{Coordinates}
-use Rattle.poly_texts.specs.Words.{word_names}
-use Rattle.poly_texts.specs.declared.need.Need.{Need}
-use Rattle.poly_texts.specs.Reading.{DraftValue, three_words, has_piece, named_shapes, some_repeated, taken_in, new_names, shape_of, with_line, piece_line}
+use Rattle.poly_cells.specs.Sets.{IsIn}
+use Rattle.poly_cells.proofs.SetLemmas.{in_append_left}
+use Rattle.poly_texts.specs.Kinds.{KindValue, named_shapes, kind_names, kind_pieces}
+use Rattle.poly_texts.specs.Puzzle.{symbols_in, names_of, has_name, has_piece, are_new}
+use Rattle.poly_texts.specs.Reading.{three_words, some_repeated}
+use Rattle.poly_texts.proofs.FreshLemmas.{has_in, in_has, named_in, named_keeps, new_apart, new_first, fresh_from}
+use Rattle.poly_texts.proofs.KindLemmas.{names_own, own_among, names_flat}
 
 -- *words*
 
@@ -31,14 +34,6 @@ module _ (all after_a after_b after_c : List (List ℕ)) (a b c : List ℕ) (fir
 
 -- *pieces by name*
 
-pub looked_up : (pieces : List (ℕ × List Coordinates)) (name : ℕ) → is_some (lookup (λ n. name == n) pieces) ≡ has_piece pieces name
-looked_up [] name = refl
-looked_up (p ∷ ps) name = by_test (name == p.0) (looked_up ps name)
-  where
-    by_test : (b : Bool) → is_some (lookup (λ n. name == n) ps) ≡ has_piece ps name → is_some (cond b (Some p.1) (lookup (λ n. name == n) ps)) ≡ (b || has_piece ps name)
-    by_test true h = refl
-    by_test false h = h
-
 pub entered : (pieces : List (ℕ × List Coordinates)) (name : ℕ) (shape : List Coordinates) → has_piece pieces name ≡ false → insert_entry (λ m n. m == n) pieces name shape ≡ pieces ++ (name, shape) ∷ []
 entered [] name shape h = refl
 entered (p ∷ ps) name shape h = by_test (name == p.0) h (entered ps name shape)
@@ -46,16 +41,6 @@ entered (p ∷ ps) name shape h = by_test (name == p.0) h (entered ps name shape
     by_test : (b : Bool) → (b || has_piece ps name) ≡ false → (has_piece ps name ≡ false → insert_entry (λ m n. m == n) ps name shape ≡ ps ++ (name, shape) ∷ []) → cond b ((p.0, shape) ∷ ps) (p ∷ insert_entry (λ m n. m == n) ps name shape) ≡ p ∷ ps ++ (name, shape) ∷ []
     by_test true h later = absurd (cc)
     by_test false h later = ap (λ qs. p ∷ qs) (later h)
-
-module _ (taken : ℕ → Bool) (need : Need) (several : Bool) (word names : List ℕ) (named : Some names ≡ word_names need several word) where
-  pub names_found : some_repeated taken names ≡ false → new_names taken need several word ≡ Ok names
-  unfolding new_names
-  names_found h = rw (← named, h) refl
-
--- a `piece` line whose words gave these
-pub piece_read : (s : DraftValue) (need : Need) (several mirrored : Bool) (all : List (List ℕ)) (word : List ℕ) (words : List (List ℕ)) (names : List ℕ) (shape : List Coordinates) → all ≡ word ∷ words → is_empty words ≡ false → new_names (taken_in s) need several word ≡ Ok names → shape_of words ≡ Ok shape → piece_line s need several mirrored all ≡ Ok (with_line s need mirrored names shape)
-unfolding piece_line
-piece_read s need several mirrored all word words names shape e some a b = rw (e, some, a, b) refl
 
 -- *names that are gone through*
 
@@ -85,3 +70,26 @@ module _ (pieces : List (ℕ × List Coordinates)) (names : List ℕ) (k n : ℕ
   shapes_more shape before so =
       ap (λ ps. ps ++ (n, shape) ∷ []) so ∙ append_assoc before (named_shapes (take k names) shape) ((n, shape) ∷ [])
       ∙ ap (λ ps. before ++ ps) (sym (ap (λ ns. named_shapes ns shape) (take_more names k n within ∙ ap (λ m. take k names ++ m ∷ []) (sym is)) ∙ map-append (λ m. (m, shape)) (take k names) (n ∷ [])))
+
+-- *kinds that are gone through*
+
+module _ (kinds : List KindValue) (i : ℕ) (k : KindValue) (within : i < length kinds) (is : k ≡ get_or kinds i k) where
+  -- none of the names of this kind is one of the pieces of those before it
+  pub next_fresh : are_new (symbols_in kinds) ≡ true → some_repeated (has_piece (flat_map kind_pieces (take i kinds))) (kind_names k) ≡ false
+  next_fresh new =
+      fresh_from (has_piece (flat_map kind_pieces (take i kinds))) (kind_names k) (named_keeps k.usage k.symbols (new_first k.symbols (symbols_in (drop (i + 1) kinds)) (new_apart (symbols_in (take i kinds)) later here).0))
+      (λ n j. false_from_ne_true _ (λ t. both_ways (has_name later n) ((new_apart (symbols_in (take i kinds)) later here).1 n (earlier n t)) (has_in later n (in_append_left n k.symbols (symbols_in (drop (i + 1) kinds)) (names_own k n j)))))
+    where
+      later : List ℕ
+      later = k.symbols ++ symbols_in (drop (i + 1) kinds)
+
+      parts : kinds ≡ take i kinds ++ k ∷ drop (i + 1) kinds
+      parts = sym (take-append-drop i kinds) ∙ ap (λ ks. take i kinds ++ ks) (drop_more kinds i k within ∙ ap (λ j. j ∷ drop (i + 1) kinds) (sym is))
+
+      here : are_new (symbols_in (take i kinds) ++ (k.symbols ++ symbols_in (drop (i + 1) kinds))) ≡ true
+      here = subst (λ ns. are_new ns ≡ true) (ap symbols_in parts ∙ flat_map-append (λ j. j.symbols) (take i kinds) (k ∷ drop (i + 1) kinds)) new
+
+      earlier : (n : ℕ) → has_piece (flat_map kind_pieces (take i kinds)) n ≡ true → IsIn n (symbols_in (take i kinds))
+      earlier n t =
+          own_among kind_names names_own (take i kinds) n
+          (subst (λ (ns : List ℕ). IsIn n ns) (names_flat (take i kinds)) (in_has (names_of (flat_map kind_pieces (take i kinds))) n (sym (named_in (flat_map kind_pieces (take i kinds)) n) ∙ t)))

@@ -9,8 +9,7 @@ use Rattle.poly_texts.specs.Limits.{most_region_cells}
 use Rattle.poly_texts.specs.Cells.{with_cell, with_cells}
 use Rattle.poly_texts.specs.Puzzle.{has_name}
 use Rattle.poly_texts.specs.Reading.{DraftValue, nothing, taken_in, some_repeated, kept_shape}
-use Rattle.poly_texts.specs.Grammar.{Line, piece, range, box, cells, cut, is_line, piece_of, maybe_name_of, any_name_of, mirrored_by, equal_by, symbols_by, spare_by, taken_by, is_box, named_by, maybe_by, cut_by, AreLines}
-use Rattle.poly_texts.specs.declared.need.Need.TheVariants as needs
+use Rattle.poly_texts.specs.Grammar.{Line, kind, box, cells, cut, is_line, kinds_by, taken_by, is_box, named_by, maybe_by, cut_by, AreLines}
 use Rattle.poly_texts.proofs.CellLemmas.{with_cells-append, with_none}
 use Rattle.poly_texts.proofs.FreshLemmas.{fresh_new, fresh_from, fresh_joined, fresh_parted, taken_more}
 use Rattle.poly_texts.proofs.PartLemmas.{plus, is_small, is_fit}
@@ -27,45 +26,13 @@ plus_all s (l ∷ ls) = plus_all (plus s l) ls
 
 -- *what one line adds*
 
-plus_pieces : (s : DraftValue) (l : Line) → (plus s l).pieces ≡ s.pieces ++ piece_of l
-plus_pieces s (piece need several mirrored names cs) = refl
-plus_pieces s (range mirrored names spare cs) = refl
-plus_pieces s other = sym (append-nil s.pieces)
-
-plus_names : (s : DraftValue) (l : Line) → (plus s l).maybe_pieces ≡ s.maybe_pieces ++ maybe_name_of l
-plus_names s (piece need several mirrored names cs) = refl
-plus_names s (range mirrored names spare cs) = refl
-plus_names s other = sym (append-nil s.maybe_pieces)
-
-plus_any : (s : DraftValue) (l : Line) → (plus s l).any_pieces ≡ s.any_pieces ++ any_name_of l
-plus_any s (piece need several mirrored names cs) = refl
-plus_any s (range mirrored names spare cs) = refl
-plus_any s other = sym (append-nil s.any_pieces)
-
-plus_mirrored : (s : DraftValue) (l : Line) → (plus s l).mirrored ≡ s.mirrored ++ mirrored_by l
-plus_mirrored s (piece need several mirrored names cs) = refl
-plus_mirrored s (range mirrored names spare cs) = refl
-plus_mirrored s other = sym (append-nil s.mirrored)
-
-plus_equal : (s : DraftValue) (l : Line) → (plus s l).equal ≡ s.equal ++ equal_by l
-plus_equal s (piece need several mirrored names cs) = refl
-plus_equal s (range mirrored names spare cs) = refl
-plus_equal s other = sym (append-nil s.equal)
-
-plus_symbols : (s : DraftValue) (l : Line) → (plus s l).symbols ≡ s.symbols ++ symbols_by l
-plus_symbols s (piece need several mirrored names cs) = refl
-plus_symbols s (range mirrored names spare cs) = refl
-plus_symbols s other = sym (append-nil s.symbols)
-
-plus_spare : (s : DraftValue) (l : Line) → (plus s l).spare ≡ s.spare ++ spare_by l
-plus_spare s (range mirrored names spare cs) = refl
-plus_spare s (piece need several mirrored names cs) = sym (append-nil s.spare)
-plus_spare s other = sym (append-nil s.spare)
+plus_kinds : (s : DraftValue) (l : Line) → (plus s l).kinds ≡ s.kinds ++ kinds_by l
+plus_kinds s (kind k) = refl
+plus_kinds s other = sym (append-nil s.kinds)
 
 -- a symbol is taken then where it was before, or where the line takes it
 plus_taken : (s : DraftValue) (l : Line) (n : ℕ) → taken_in (plus s l) n ≡ (taken_in s n || has_name (taken_by l) n)
-plus_taken s (piece need several mirrored names cs) n = taken_more s need mirrored names (kept_shape cs) n
-plus_taken s (range mirrored names spare cs) n = taken_more s needs.Must mirrored (names ++ spare) (kept_shape cs) n
+plus_taken s (kind k) n = taken_more s (record k { cells = kept_shape k.cells }) n
 plus_taken s other n = sym (or-false (taken_in s n))
 
 plus_named : (s : DraftValue) (l : Line) → (plus s l).named ≡ with_cells s.named (named_by l)
@@ -83,39 +50,12 @@ plus_cut s other = sym (with_none s.cut)
 
 -- *what lines add*
 
-more_pieces : (s : DraftValue) (l : Line) (rest : List (ℕ × List Coordinates)) → (plus s l).pieces ++ rest ≡ s.pieces ++ (piece_of l ++ rest)
-more_pieces s l rest = ap (λ ps. ps ++ rest) (plus_pieces s l) ∙ append_assoc s.pieces (piece_of l) rest
-
 more_named : (s : DraftValue) (l : Line) (rest : List Coordinates) → with_cells (plus s l).named rest ≡ with_cells s.named (named_by l ++ rest)
 more_named s l rest = ap (λ cs. with_cells cs rest) (plus_named s l) ∙ sym (with_cells-append s.named (named_by l) rest)
 
-pub all_pieces : (s : DraftValue) (ls : List Line) → (plus_all s ls).pieces ≡ s.pieces ++ flat_map piece_of ls
-all_pieces s [] = sym (append-nil s.pieces)
-all_pieces s (l ∷ ls) = all_pieces (plus s l) ls ∙ more_pieces s l (flat_map piece_of ls)
-
-pub all_names : (s : DraftValue) (ls : List Line) → (plus_all s ls).maybe_pieces ≡ s.maybe_pieces ++ flat_map maybe_name_of ls
-all_names s [] = sym (append-nil s.maybe_pieces)
-all_names s (l ∷ ls) = all_names (plus s l) ls ∙ ap (λ ns. ns ++ flat_map maybe_name_of ls) (plus_names s l) ∙ append_assoc s.maybe_pieces (maybe_name_of l) (flat_map maybe_name_of ls)
-
-pub all_any : (s : DraftValue) (ls : List Line) → (plus_all s ls).any_pieces ≡ s.any_pieces ++ flat_map any_name_of ls
-all_any s [] = sym (append-nil s.any_pieces)
-all_any s (l ∷ ls) = all_any (plus s l) ls ∙ ap (λ ns. ns ++ flat_map any_name_of ls) (plus_any s l) ∙ append_assoc s.any_pieces (any_name_of l) (flat_map any_name_of ls)
-
-pub all_mirrored : (s : DraftValue) (ls : List Line) → (plus_all s ls).mirrored ≡ s.mirrored ++ flat_map mirrored_by ls
-all_mirrored s [] = sym (append-nil s.mirrored)
-all_mirrored s (l ∷ ls) = all_mirrored (plus s l) ls ∙ ap (λ ns. ns ++ flat_map mirrored_by ls) (plus_mirrored s l) ∙ append_assoc s.mirrored (mirrored_by l) (flat_map mirrored_by ls)
-
-pub all_equal : (s : DraftValue) (ls : List Line) → (plus_all s ls).equal ≡ s.equal ++ flat_map equal_by ls
-all_equal s [] = sym (append-nil s.equal)
-all_equal s (l ∷ ls) = all_equal (plus s l) ls ∙ ap (λ gs. gs ++ flat_map equal_by ls) (plus_equal s l) ∙ append_assoc s.equal (equal_by l) (flat_map equal_by ls)
-
-pub all_symbols : (s : DraftValue) (ls : List Line) → (plus_all s ls).symbols ≡ s.symbols ++ flat_map symbols_by ls
-all_symbols s [] = sym (append-nil s.symbols)
-all_symbols s (l ∷ ls) = all_symbols (plus s l) ls ∙ ap (λ gs. gs ++ flat_map symbols_by ls) (plus_symbols s l) ∙ append_assoc s.symbols (symbols_by l) (flat_map symbols_by ls)
-
-pub all_spare : (s : DraftValue) (ls : List Line) → (plus_all s ls).spare ≡ s.spare ++ flat_map spare_by ls
-all_spare s [] = sym (append-nil s.spare)
-all_spare s (l ∷ ls) = all_spare (plus s l) ls ∙ ap (λ ns. ns ++ flat_map spare_by ls) (plus_spare s l) ∙ append_assoc s.spare (spare_by l) (flat_map spare_by ls)
+pub all_kinds : (s : DraftValue) (ls : List Line) → (plus_all s ls).kinds ≡ s.kinds ++ flat_map kinds_by ls
+all_kinds s [] = sym (append-nil s.kinds)
+all_kinds s (l ∷ ls) = all_kinds (plus s l) ls ∙ ap (λ ks. ks ++ flat_map kinds_by ls) (plus_kinds s l) ∙ append_assoc s.kinds (kinds_by l) (flat_map kinds_by ls)
 
 pub all_named : (s : DraftValue) (ls : List Line) → (plus_all s ls).named ≡ with_cells s.named (flat_map named_by ls)
 all_named s [] = sym (with_none s.named)
@@ -167,8 +107,7 @@ boxes_more s (box a b c) ls fit =
 boxes_more s other ls fit = refl
 
 fit_new : (s : DraftValue) (l : Line) → is_fit s l ≡ true → some_repeated (taken_in s) (taken_by l) ≡ false
-fit_new s (piece need several mirrored names cs) fit = not-true _ fit
-fit_new s (range mirrored names spare cs) fit = not-true _ fit
+fit_new s (kind k) fit = not-true _ fit
 fit_new s other fit = refl
 
 plus_few : (s : DraftValue) (l : Line) → length s.named ≤ most_region_cells → is_fit s l ≡ true → length (plus s l).named ≤ most_region_cells
@@ -204,12 +143,7 @@ unboxed true n h = absurd (omega arith)
 unboxed false n h = refl
 
 fits_first : (s : DraftValue) (l : Line) (ls : List Line) → GoTogether s (l ∷ ls) → is_fit s l ≡ true
-fits_first s (piece need several mirrored names cs) ls t =
-    let l = piece need several mirrored names cs in
-    not_from_false _ (fresh_parted (taken_in s) (taken_in (plus s l)) names (flat_map taken_by ls) (plus_taken s l) t.new).0
-fits_first s (range mirrored names spare cs) ls t =
-    let l = range mirrored names spare cs in
-    not_from_false _ (fresh_parted (taken_in s) (taken_in (plus s l)) (names ++ spare) (flat_map taken_by ls) (plus_taken s l) t.new).0
+fits_first s (kind k) ls t = not_from_false _ (fresh_parted (taken_in s) (taken_in (plus s (kind k))) k.symbols (flat_map taken_by ls) (plus_taken s (kind k)) t.new).0
 fits_first s (box a b c) ls t = and_from _ _ (unboxed s.boxed (length (filter is_box ls)) (omega (arith, t.one_box))) (small_before s (box a b c) (flat_map named_by ls) t.few)
 fits_first s (cells optional cs) ls t = small_before s (cells optional cs) (flat_map named_by ls) t.few
 fits_first s (cut cs) ls t = refl

@@ -1,11 +1,11 @@
 pub mod Faults
 pub mod Limits
 pub mod Cells
-pub mod Needs
+pub mod Usages
 pub mod Words
+pub mod Kinds
 pub mod Puzzle
 pub mod Reading
 pub mod Grammar
 pub mod Plain
-pub mod Lists
 pub mod Answers

@@ -2,19 +2,22 @@
 -- these lines is read as the puzzle that they say, whatever the other lines mean.
 --
 -- Example: the line `maybe piece A 000` is one of them, and says the piece A, which may be left out. proofs/GrammarExamples.antt computes it.
-use Rattle.std.specs.Prelude.{ℕ, ◌≤◌, ◌<◌, ◌≡◌, nat_le, Bool, true, false, ◌&&◌, List, [], ◌∷◌, length, map, filter, flat_map, codes, decimal, Ok, if◌then◌else◌}
+use Rattle.std.specs.Prelude.{ℕ, ◌≤◌, ◌<◌, ◌≡◌, Bool, true, false, ◌&&◌, List, [], ◌∷◌, length, map, filter, flat_map, codes, decimal, Ok, if◌then◌else◌}
 use Rattle.std.specs.List.{list_all}
 use Rattle.text_lines.specs.Lines.{lines_of}
 use Rattle.text_lines.specs.Writing.{are_plain}
 use Rattle.text_lines.specs.Reading.{words_by_line}
 use Rattle.poly_cells.specs.Coordinates.{Coordinates}
 use Rattle.poly_cells.specs.CellWords.{cell_word}
-use Rattle.poly_texts.specs.Limits.{most_region_cells, most_piece_cells}
+use Rattle.poly_texts.specs.Limits.{most_region_cells}
 use Rattle.poly_texts.specs.Cells.{with_cells, ordered_without, box_cells}
+use Rattle.poly_texts.specs.declared.usage.Usage.{Usage}
+use Rattle.poly_texts.specs.declared.usage.Usage.TheVariants as usages
 use Rattle.poly_texts.specs.Words.{is_name}
-use Rattle.poly_texts.specs.Puzzle.{PuzzleValue, puzzle_from, names_of, are_new, needs_nothing}
+use Rattle.poly_texts.specs.Kinds.{KindValue, kind_with, form_of}
+use Rattle.poly_texts.specs.Puzzle.{PuzzleValue, puzzle_from, symbols_in, are_new, needs_nothing}
 use Rattle.poly_texts.specs.Reading.{kept_shape, puzzle_of}
-use Rattle.poly_texts.specs.Grammar.{maybe_words, are_in_grid, are_apart, is_side}
+use Rattle.poly_texts.specs.Grammar.{maybe_words, are_in_grid, are_a_piece, is_side}
 
 -- what such a line says: a piece, whether it may be left out, with its name and its cells; a box of these sizes; cells, and whether they
 -- may stay empty; or cells to be cut
@@ -33,24 +36,21 @@ plain_words (plain_cut cs) = codes "cut" ∷ map cell_word cs
 
 -- such a line within the limits
 abbrev pub is_plain_line : PlainLine → Bool
-is_plain_line (plain_piece optional name cs) = is_name name && (are_in_grid cs && (are_apart cs && nat_le (length cs) most_piece_cells))
+is_plain_line (plain_piece optional name cs) = is_name name && are_a_piece cs
 is_plain_line (plain_box a b c) = is_side a && (is_side b && is_side c)
 is_plain_line (plain_cells optional cs) = are_in_grid cs
 is_plain_line (plain_cut cs) = are_in_grid cs
 
--- the piece of a `piece` line, as it is kept
-abbrev pub plain_piece_of : PlainLine → List (ℕ × List Coordinates)
-plain_piece_of (plain_piece optional name cs) = (name, kept_shape cs) ∷ []
-plain_piece_of (plain_box a b c) = []
-plain_piece_of (plain_cells optional cs) = []
-plain_piece_of (plain_cut cs) = []
+-- how a piece is used that may be left out, or may not
+abbrev pub plain_usage : Bool → Usage
+plain_usage optional = if optional then usages.Maybe else usages.Once
 
--- the name of a piece that may be left out
-abbrev pub plain_maybe_name : PlainLine → List ℕ
-plain_maybe_name (plain_piece optional name cs) = if optional then name ∷ [] else []
-plain_maybe_name (plain_box a b c) = []
-plain_maybe_name (plain_cells optional cs) = []
-plain_maybe_name (plain_cut cs) = []
+-- the kind of a `piece` line: one piece, as it is kept
+abbrev pub plain_kind_of : PlainLine → List KindValue
+plain_kind_of (plain_piece optional name cs) = kind_with (form_of (plain_usage optional) false 0) (name ∷ []) (kept_shape cs) ∷ []
+plain_kind_of (plain_box a b c) = []
+plain_kind_of (plain_cells optional cs) = []
+plain_kind_of (plain_cut cs) = []
 
 -- whether it is a `box` line
 abbrev pub is_plain_box : PlainLine → Bool
@@ -83,7 +83,7 @@ plain_cut_cells (plain_cut cs) = cs
 -- what such lines say that are within the limits, alone and together
 pub record ArePlainLines (lines : List PlainLine) : Type 0 where
   pub good : list_all is_plain_line lines ≡ true
-  pub new : are_new (names_of (flat_map plain_piece_of lines)) ≡ true
+  pub new : are_new (symbols_in (flat_map plain_kind_of lines)) ≡ true
   pub one_box : length (filter is_plain_box lines) ≤ 1
   pub few : length (with_cells [] (flat_map plain_named lines)) ≤ most_region_cells
 
@@ -94,8 +94,7 @@ plain_uncut lines cs = ordered_without (flat_map plain_cut_cells lines) cs
 -- the puzzle of such lines
 abbrev pub plain_puzzle_by : List PlainLine → PuzzleValue
 plain_puzzle_by lines =
-    puzzle_from (flat_map plain_piece_of lines) (flat_map plain_maybe_name lines) (plain_uncut lines (flat_map plain_named lines))
-    (plain_uncut lines (flat_map plain_maybe lines)) [] [] [] [] []
+    puzzle_from (flat_map plain_kind_of lines) (plain_uncut lines (flat_map plain_named lines)) (plain_uncut lines (flat_map plain_maybe lines))
 
 -- comments, blanks, empty lines and line ends aside, the text is such lines that say the puzzle: with a cell, with a piece, and with one
 -- of these required
@@ -106,8 +105,8 @@ pub record IsPlainText (text : List ℕ) (p : PuzzleValue) : Type 0 where
   pub within : ArePlainLines lines
   pub puzzle : p ≡ plain_puzzle_by lines
   pub some_cell : 0 < length p.region
-  pub some_piece : 0 < length p.pieces
-  pub required : needs_nothing p.pieces p.maybe_pieces p.region p.maybe_cells ≡ false
+  pub some_piece : 0 < length p.kinds
+  pub required : needs_nothing p.kinds p.region p.maybe_cells ≡ false
 
 -- each text of such lines is read as its puzzle
 abbrev pub PlainTextsStay : Type 0

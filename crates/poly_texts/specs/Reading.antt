@@ -15,8 +15,7 @@
 --
 -- Example: `piece A 000 000` has the fault RepeatedCell in line 1; a text of no lines has EmptyRegion in line 0, and
 -- `box 1 1 1` alone NoPiece. proofs/ReadingExamples.antt computes them.
-use Rattle.std.specs.Prelude.{ℕ, ◌==◌, nat_lt, nat_le, Bool, true, false, not, ◌||◌, map, List, [], ◌∷◌, ◌++◌, length, Option, Some, None, Result, Ok, Err, codes, if◌then◌else◌}
-use Rattle.std.specs.List.{list_any}
+use Rattle.std.specs.Prelude.{ℕ, ◌==◌, nat_lt, nat_le, Bool, true, false, not, ◌||◌, List, [], ◌∷◌, ◌++◌, length, Option, Some, None, Result, Ok, Err, codes, if◌then◌else◌}
 use Rattle.std.specs.Str.{bytes_eq}
 use Rattle.text_lines.specs.Lines.{lines_of, is_empty}
 use Rattle.text_lines.specs.Each.{each, ◌>>=◌}
@@ -29,51 +28,29 @@ use Rattle.poly_texts.specs.declared.fault.Fault.{Fault}
 use Rattle.poly_texts.specs.declared.fault.Fault.TheVariants.{BadLine, BadCell, RepeatedCell, RepeatedPiece, SecondBox, EmptyRegion, NoPiece, TooLarge, NothingRequired}
 use Rattle.poly_texts.specs.declared.key.Key.{Key}
 use Rattle.poly_texts.specs.declared.key.Key.TheVariants as keys
-use Rattle.poly_texts.specs.declared.need.Need.{Need}
-use Rattle.poly_texts.specs.declared.need.Need.TheVariants as needs
+use Rattle.poly_texts.specs.declared.usage.Usage.{Usage}
+use Rattle.poly_texts.specs.declared.usage.Usage.TheVariants as usages
+use Rattle.poly_texts.specs.declared.form.Form.{Form}
 use Rattle.poly_cells.specs.CellTests.{has_cell}
 use Rattle.poly_cells.specs.CellWords.{cell_of}
 use Rattle.poly_texts.specs.Cells.{with_cell, with_cells, ordered_without, box_cells}
-use Rattle.poly_texts.specs.Needs.{is_must, is_maybe, is_repeatable, pieces_named}
+use Rattle.poly_texts.specs.Usages.{is_once}
+use Rattle.poly_texts.specs.Kinds.{KindValue, kind_with, form_of}
 use Rattle.poly_texts.specs.Words.{word_names, has_plus, before_plus, after_plus, are_sizes, are_small, size_from}
-use Rattle.poly_texts.specs.Puzzle.{PuzzleValue, puzzle_from, names_unneeded, needs_nothing, has_name}
+use Rattle.poly_texts.specs.Puzzle.{PuzzleValue, puzzle_from, symbols_in, needs_nothing, has_name}
 
--- what the lines so far say: the pieces, the names of those that may be left out, whether there was a box, and the cells that
--- lines name, that `maybe cells` lines name and that `cut` lines name, each cell once
+-- what the lines so far say: the kinds of pieces, whether there was a box, and the cells that lines name, that `maybe cells` lines name and
+-- that `cut` lines name, each cell once
 pub record DraftValue : Type 0 where
-  pub pieces : List (ℕ × List Coordinates)
-  pub maybe_pieces : List ℕ
+  pub kinds : List KindValue
   pub boxed : Bool
   pub named : List Coordinates
   pub maybe_cells : List Coordinates
   pub cut : List Coordinates
-  pub any_pieces : List ℕ
-  pub mirrored : List ℕ
-  pub equal : List (List ℕ)
-  pub symbols : List (List ℕ)
-  pub spare : List ℕ
-
--- these parts together
-abbrev pub draft_from
-    : List (ℕ × List Coordinates) → List ℕ → Bool → List Coordinates → List Coordinates → List Coordinates → List ℕ → List ℕ
-    → List (List ℕ) → List (List ℕ) → List ℕ → DraftValue
-draft_from pieces maybe_pieces boxed named maybe_cells cut any_pieces mirrored equal symbols spare = record {
-  pieces = pieces;
-  maybe_pieces = maybe_pieces;
-  boxed = boxed;
-  named = named;
-  maybe_cells = maybe_cells;
-  cut = cut;
-  any_pieces = any_pieces;
-  mirrored = mirrored;
-  equal = equal;
-  symbols = symbols;
-  spare = spare;
-}
 
 -- no lines say this
 abbrev pub nothing : DraftValue
-nothing = draft_from [] [] false [] [] [] [] [] [] [] []
+nothing = record { kinds = []; boxed = false; named = []; maybe_cells = []; cut = [] }
 
 -- *the words of a line*
 
@@ -112,48 +89,13 @@ shape_of words = each add_piece_cell [] words >>= λ cells. Ok (kept_shape cells
 abbrev pub within : DraftValue → Result DraftValue Fault
 within s = if nat_le (length s.named) most_region_cells then Ok s else Err TooLarge
 
--- whether one of the pieces has this name
-abbrev pub has_piece : List (ℕ × List Coordinates) → ℕ → Bool
-has_piece pieces name = list_any (λ p. name == p.0) pieces
+-- with one kind more
+abbrev pub with_kind : DraftValue → KindValue → DraftValue
+with_kind s k = record s { kinds = s.kinds ++ k ∷ [] }
 
--- these names, if it is so
-abbrev pub names_if : Bool → List ℕ → List ℕ
-names_if there names = if there then names else []
-
--- the group of these names, if there are two at least
-abbrev pub group_of : List ℕ → List (List ℕ)
-group_of names = if nat_lt 1 (length names) then names ∷ [] else []
-
--- a piece of this shape for each name
-abbrev pub named_shapes : List ℕ → List Coordinates → List (ℕ × List Coordinates)
-named_shapes names shape = map (λ n. (n, shape)) names
-
--- with more pieces, of one shape
-abbrev pub with_pieces : DraftValue → Need → Bool → List ℕ → List Coordinates → DraftValue
-with_pieces s need mirrored names shape = record s {
-  pieces = s.pieces ++ named_shapes names shape;
-  maybe_pieces = s.maybe_pieces ++ names_if (is_maybe need) names;
-  any_pieces = s.any_pieces ++ names_if (is_repeatable need) names;
-  mirrored = s.mirrored ++ names_if mirrored names;
-  equal = s.equal ++ group_of names;
-}
-
--- the symbols by which the copies of a piece that may be used any number of times are shown in turn, if there are two at least
-abbrev pub symbols_of : Need → List ℕ → List (List ℕ)
-symbols_of need names = group_of (names_if (is_repeatable need) names)
-
--- what a line of pieces says: those that it names, and the symbols by which copies are shown
-abbrev pub with_line : DraftValue → Need → Bool → List ℕ → List Coordinates → DraftValue
-with_line s need mirrored names shape =
-    record (with_pieces s need mirrored (pieces_named need names) shape) { symbols = s.symbols ++ symbols_of need names }
-
--- the symbol names a piece, or is one of those by which copies are shown
-abbrev pub is_taken : List (ℕ × List Coordinates) → List (List ℕ) → ℕ → Bool
-is_taken pieces symbols name = has_piece pieces name || list_any (λ word. has_name word name) symbols
-
--- so it is in what the lines so far say
+-- the symbol stands in one of the lines so far
 abbrev pub taken_in : DraftValue → ℕ → Bool
-taken_in s = is_taken s.pieces s.symbols
+taken_in s = has_name (symbols_in s.kinds)
 
 -- one of the names is taken, or comes twice
 abbrev pub some_repeated : (ℕ → Bool) → List ℕ → Bool
@@ -166,36 +108,33 @@ are_fresh taken None = Err BadLine
 are_fresh taken (Some names) = if some_repeated taken names then Err RepeatedPiece else Ok names
 
 -- the same, where they are given by a word
-unfoldable pub new_names : (ℕ → Bool) → Need → Bool → List ℕ → Result (List ℕ) Fault
-new_names taken need several word = are_fresh taken (word_names need several word)
+unfoldable pub new_names : (ℕ → Bool) → Usage → List ℕ → Result (List ℕ) Fault
+new_names taken usage word = are_fresh taken (word_names usage word)
 
--- a `piece` or a `copies` line: one name or several, and a cell
-unfoldable pub piece_line : DraftValue → Need → Bool → Bool → List (List ℕ) → Result DraftValue Fault
-piece_line s need several mirrored [] = Err BadLine
-piece_line s need several mirrored (word ∷ words) =
+-- a line that says a kind of this form, with the symbols of a word, and a cell
+unfoldable pub kind_line : DraftValue → Form → List ℕ → List (List ℕ) → Result DraftValue Fault
+kind_line s form word words =
     if is_empty words then Err BadLine else (do
-      names ← new_names (taken_in s) need several word
+      symbols ← new_names (taken_in s) form.usage word
       shape ← shape_of words
-      Ok (with_line s need mirrored names shape))
+      Ok (with_kind s (kind_with form symbols shape)))
 
--- with some of the pieces as spare copies
-abbrev pub with_spare : DraftValue → List ℕ → DraftValue
-with_spare s names = record s { spare = s.spare ++ names }
+-- a `piece` line
+unfoldable pub piece_line : DraftValue → Usage → Bool → List (List ℕ) → Result DraftValue Fault
+piece_line s usage mirrored [] = Err BadLine
+piece_line s usage mirrored (word ∷ words) = kind_line s (form_of usage mirrored 0) word words
 
--- a `copies` line with a `+`: the symbols before it and those after it, two in all and one after it at least, and a cell
-unfoldable pub range_line : DraftValue → Bool → List ℕ → List ℕ → List (List ℕ) → Result DraftValue Fault
+-- a `copies` line with a `+`: the symbols before it and those after it, one after it at least
+abbrev pub range_line : DraftValue → Bool → List ℕ → List ℕ → List (List ℕ) → Result DraftValue Fault
 range_line s mirrored needed spare words =
-    if is_empty words || length spare == 0 then Err BadLine else (do
-      names ← new_names (taken_in s) needs.Must true (needed ++ spare)
-      shape ← shape_of words
-      Ok (with_spare (with_line s needs.Must mirrored names shape) spare))
+    if length spare == 0 then Err BadLine else kind_line s (form_of usages.Copies mirrored (length spare)) (needed ++ spare) words
 
 -- a `copies` line, with a `+` or without
 unfoldable pub copies_line : DraftValue → Bool → List (List ℕ) → Result DraftValue Fault
 copies_line s mirrored [] = Err BadLine
 copies_line s mirrored (word ∷ words) =
     if has_plus word then range_line s mirrored (before_plus word) (after_plus word) words else
-    piece_line s needs.Must true mirrored (word ∷ words)
+    kind_line s (form_of usages.Copies mirrored 0) word words
 
 -- three words, and no others
 abbrev pub three_words : List (List ℕ) → Option (List ℕ × List ℕ × List ℕ)
@@ -249,31 +188,31 @@ key_from word =
     (if bytes_eq word (codes "copies") then Some keys.Copies else None)))))))
 
 -- a `copies` line after `mirror`, before which no other word stands
-abbrev pub mirrored_copies : DraftValue → Need → List (List ℕ) → Result DraftValue Fault
-mirrored_copies s need words = if not (is_must need) then Err BadLine else copies_line s true words
+abbrev pub mirrored_copies : DraftValue → Usage → List (List ℕ) → Result DraftValue Fault
+mirrored_copies s usage words = if not (is_once usage) then Err BadLine else copies_line s true words
 
 -- a line after `mirror`, by its key
-abbrev pub mirror_keyed : Option Key → DraftValue → Need → List (List ℕ) → Result DraftValue Fault
-mirror_keyed (Some keys.Piece) s need words = piece_line s need false true words
-mirror_keyed (Some keys.Copies) s need words = mirrored_copies s need words
-mirror_keyed (Some keys.Cells) s need words = Err BadLine
-mirror_keyed (Some keys.Box) s need words = Err BadLine
-mirror_keyed (Some keys.Cut) s need words = Err BadLine
-mirror_keyed (Some keys.Maybe) s need words = Err BadLine
-mirror_keyed (Some keys.Any) s need words = Err BadLine
-mirror_keyed (Some keys.Mirror) s need words = Err BadLine
-mirror_keyed None s need words = Err BadLine
+abbrev pub mirror_keyed : Option Key → DraftValue → Usage → List (List ℕ) → Result DraftValue Fault
+mirror_keyed (Some keys.Piece) s usage words = piece_line s usage true words
+mirror_keyed (Some keys.Copies) s usage words = mirrored_copies s usage words
+mirror_keyed (Some keys.Cells) s usage words = Err BadLine
+mirror_keyed (Some keys.Box) s usage words = Err BadLine
+mirror_keyed (Some keys.Cut) s usage words = Err BadLine
+mirror_keyed (Some keys.Maybe) s usage words = Err BadLine
+mirror_keyed (Some keys.Any) s usage words = Err BadLine
+mirror_keyed (Some keys.Mirror) s usage words = Err BadLine
+mirror_keyed None s usage words = Err BadLine
 
 -- a `mirror` line: the words after `mirror`
-unfoldable pub mirror_line : DraftValue → Need → List (List ℕ) → Result DraftValue Fault
-mirror_line s need [] = Err BadLine
-mirror_line s need (key ∷ words) = mirror_keyed (key_from key) s need words
+unfoldable pub mirror_line : DraftValue → Usage → List (List ℕ) → Result DraftValue Fault
+mirror_line s usage [] = Err BadLine
+mirror_line s usage (key ∷ words) = mirror_keyed (key_from key) s usage words
 
 -- a line of a second key, after `maybe`, and the words after it
 abbrev pub maybe_keyed : Option Key → DraftValue → List (List ℕ) → Result DraftValue Fault
-maybe_keyed (Some keys.Piece) s words = piece_line s needs.Maybe false false words
+maybe_keyed (Some keys.Piece) s words = piece_line s usages.Maybe false words
 maybe_keyed (Some keys.Cells) s words = maybe_cells_line s words
-maybe_keyed (Some keys.Mirror) s words = mirror_line s needs.Maybe words
+maybe_keyed (Some keys.Mirror) s words = mirror_line s usages.Maybe words
 maybe_keyed (Some keys.Box) s words = Err BadLine
 maybe_keyed (Some keys.Cut) s words = Err BadLine
 maybe_keyed (Some keys.Maybe) s words = Err BadLine
@@ -288,8 +227,8 @@ maybe_line s (key ∷ words) = maybe_keyed (key_from key) s words
 
 -- a line of a second key, after `any`, and the words after it
 abbrev pub any_keyed : Option Key → DraftValue → List (List ℕ) → Result DraftValue Fault
-any_keyed (Some keys.Piece) s words = piece_line s needs.Any false false words
-any_keyed (Some keys.Mirror) s words = mirror_line s needs.Any words
+any_keyed (Some keys.Piece) s words = piece_line s usages.Any false words
+any_keyed (Some keys.Mirror) s words = mirror_line s usages.Any words
 any_keyed (Some keys.Cells) s words = Err BadLine
 any_keyed (Some keys.Box) s words = Err BadLine
 any_keyed (Some keys.Cut) s words = Err BadLine
@@ -305,13 +244,13 @@ any_line s (key ∷ words) = any_keyed (key_from key) s words
 
 -- a line of a key and the words after it
 abbrev pub keyed_line : Option Key → DraftValue → List (List ℕ) → Result DraftValue Fault
-keyed_line (Some keys.Piece) s words = piece_line s needs.Must false false words
+keyed_line (Some keys.Piece) s words = piece_line s usages.Once false words
 keyed_line (Some keys.Box) s words = box_line s words
 keyed_line (Some keys.Cells) s words = cells_line s words
 keyed_line (Some keys.Cut) s words = cut_line s words
 keyed_line (Some keys.Maybe) s words = maybe_line s words
 keyed_line (Some keys.Any) s words = any_line s words
-keyed_line (Some keys.Mirror) s words = mirror_line s needs.Must words
+keyed_line (Some keys.Mirror) s words = mirror_line s usages.Once words
 keyed_line (Some keys.Copies) s words = copies_line s false words
 keyed_line None s words = Err BadLine
 
@@ -334,33 +273,26 @@ region_of s = ordered_without s.cut s.named
 abbrev pub maybe_region_of : DraftValue → List Coordinates
 maybe_region_of s = ordered_without s.cut s.maybe_cells
 
--- the fault of a whole text: no cell, no piece, or none of these required, where no packing has to use these pieces
-abbrev pub whole_fault : List (ℕ × List Coordinates) → List ℕ → List Coordinates → List Coordinates → Option Fault
-whole_fault pieces names region maybe_cells =
+-- the fault of a whole text of these kinds, with this region and these cells that may stay empty: no cell, no piece, or none of them
+-- required
+abbrev pub whole_fault : List KindValue → List Coordinates → List Coordinates → Option Fault
+whole_fault kinds region maybe_cells =
     if length region == 0 then Some EmptyRegion else
-    (if length pieces == 0 then Some NoPiece else
-    (if needs_nothing pieces names region maybe_cells then Some NothingRequired else None))
-
--- the pieces that are said, with this region and these cells of it that may stay empty
-abbrev pub with_region : DraftValue → List Coordinates → List Coordinates → PuzzleValue
-with_region s region maybe = puzzle_from s.pieces s.maybe_pieces region maybe s.any_pieces s.mirrored s.equal s.symbols s.spare
+    (if length kinds == 0 then Some NoPiece else
+    (if needs_nothing kinds region maybe_cells then Some NothingRequired else None))
 
 -- the puzzle that is said
 abbrev pub puzzle_said : DraftValue → PuzzleValue
-puzzle_said s = with_region s (region_of s) (maybe_region_of s)
+puzzle_said s = puzzle_from s.kinds (region_of s) (maybe_region_of s)
 
 -- a puzzle, unless there is a fault
 abbrev pub unless : Option Fault → PuzzleValue → Result PuzzleValue Fault
 unless None p = Ok p
 unless (Some f) p = Err f
 
--- the fault of what is said, with this region
-abbrev pub fault_with : DraftValue → List Coordinates → Option Fault
-fault_with s region = whole_fault s.pieces (names_unneeded s.maybe_pieces s.any_pieces s.spare) region s.maybe_cells
-
 -- the puzzle of all lines
 unfoldable pub whole_puzzle : DraftValue → Result PuzzleValue Fault
-whole_puzzle s = unless (fault_with s (region_of s)) (puzzle_said s)
+whole_puzzle s = unless (whole_fault s.kinds (region_of s) s.maybe_cells) (puzzle_said s)
 
 -- the puzzle of a text; or its first fault, and the number of its line, which is 0 for a fault of the whole text
 unfoldable pub puzzle_of : List ℕ → Result PuzzleValue (Fault × ℕ)

@@ -7,21 +7,16 @@ use Rattle.std.specs.List.{list_all, position_or_len}
 use Rattle.std.specs.Str.{bytes_eq}
 use Rattle.text_lines.specs.Numbers.{is_decimal, value_after}
 use Rattle.poly_texts.specs.Limits.{most_size}
-use Rattle.poly_texts.specs.declared.need.Need.{Need}
-use Rattle.poly_texts.specs.Needs.{is_repeatable}
+use Rattle.poly_texts.specs.declared.usage.Usage.{Usage}
+use Rattle.poly_texts.specs.Usages.{are_so_many}
 
 -- a letter or a digit
 abbrev pub is_name : ℕ → Bool
 is_name b = (nat_le 48 b && nat_le b 57) || (nat_le 65 b && nat_le b 90) || (nat_le 97 b && nat_le b 122)
 
--- that many symbols stand in a line: one or more for a piece that may be used any number of times, two or more for equal pieces, or else
--- one alone
-abbrev pub are_so_many : Need → Bool → ℕ → Bool
-are_so_many need several n = if is_repeatable need then nat_lt 0 n else (if several then nat_lt 1 n else n == 1)
-
 -- the symbols that a word is: letters and digits, as many as the line may have
-abbrev pub word_names : Need → Bool → List ℕ → Option (List ℕ)
-word_names need several word = if list_all is_name word && are_so_many need several (length word) then Some word else None
+abbrev pub word_names : Usage → List ℕ → Option (List ℕ)
+word_names usage word = if list_all is_name word && are_so_many usage (length word) then Some word else None
 
 -- how many symbols stand before the first `+`
 unfoldable pub plus_at : List ℕ → ℕ

@@ -5,22 +5,22 @@ ghost use Rattle.text_lines.specs.Lines.{words_of};
 ghost use Rattle.poly_cells.specs.Coordinates.{coordinates_cmp};
 ghost use Rattle.text_lines.specs.Answers.{Gives};
 ghost use Rattle.poly_texts.specs.Answers.{Becomes};
-ghost use Rattle.poly_texts.specs.Puzzle.{PuzzleValue, IsPuzzle};
+ghost use Rattle.poly_texts.specs.Puzzle.{PuzzleValue, IsPuzzle, puzzle_from};
 ghost use Rattle.poly_texts.specs.Reading as reading;
-ghost use Rattle.poly_texts.specs.Reading.{nothing, with_region};
+ghost use Rattle.poly_texts.specs.Reading.{nothing};
 
-mod piece_lines;
+mod kind_lines;
 
 use crate::cells::{add_box, add_cells, are_all_in, uncut};
 use crate::fault::{Fault, LineRefusal};
 use crate::key::{Key, key_of};
+use crate::kind::{PieceKind, are_unneeded};
 use crate::limits::MOST_REGION_CELLS;
-use crate::name::PieceName;
-use crate::need::Need;
-use crate::pieces::are_all_named;
+use crate::pieces::{maybe_pieces, pieces_by_name};
 use crate::puzzle::Puzzle;
+use crate::usage::Usage;
 use crate::word::{are_sizes, sizes_of, three_words};
-use indexmap::{IndexMap, IndexSet};
+use indexmap::IndexSet;
 use poly_cells::{Cell, Shape};
 use std::alloc::{AllocError, Global};
 use std::marker::Model;
@@ -29,28 +29,20 @@ use text_lines::{ByLine, has_words, is_all_plain, outside_comment, split_word};
 /// A puzzle as far as its text has been read.
 #[derive(Drop)]
 pub struct Draft {
-    pieces: IndexMap<PieceName, Shape>,
-    maybe_pieces: Vec<PieceName>,
+    kinds: Vec<PieceKind>,
     is_boxed: bool,
     /// The cells of `box`, `cells` and `maybe cells` lines.
     named: IndexSet<Cell>,
     maybe_cells: IndexSet<Cell>,
     cut: IndexSet<Cell>,
-    any_pieces: Vec<PieceName>,
-    mirrored: Vec<PieceName>,
-    equal: Vec<Vec<PieceName>>,
-    symbols: Vec<Vec<PieceName>>,
-    spare: Vec<PieceName>,
 }
 
 impl Model for Draft {
-    ghost use Rattle.poly_texts.specs.Reading.{DraftValue, draft_from};
-    ghost use Rattle.poly_texts.specs.Lists.{lists_of};
+    ghost use Rattle.poly_texts.specs.Reading.{DraftValue};
 
     ghost Value = { DraftValue };
 
-    ghost view = { λ a. draft_from a.pieces.entries a.maybe_pieces.items a.is_boxed a.named.keys a.maybe_cells.keys a.cut.keys
-        a.any_pieces.items a.mirrored.items (lists_of a.equal.items) (lists_of a.symbols.items) a.spare.items };
+    ghost view = { λ a. record { kinds = a.kinds.items; boxed = a.is_boxed; named = a.named.keys; maybe_cells = a.maybe_cells.keys; cut = a.cut.keys } };
 }
 
 impl Draft {
@@ -59,17 +51,11 @@ impl Draft {
         ensures { result ≡ nothing }
     {
         Draft {
-            pieces: IndexMap::new(alloc),
-            maybe_pieces: Vec::new(alloc),
+            kinds: Vec::new(alloc),
             is_boxed: false,
             named: IndexSet::new(alloc),
             maybe_cells: IndexSet::new(alloc),
             cut: IndexSet::new(alloc),
-            any_pieces: Vec::new(alloc),
-            mirrored: Vec::new(alloc),
-            equal: Vec::new(alloc),
-            symbols: Vec::new(alloc),
-            spare: Vec::new(alloc),
         }
     }
 
@@ -150,9 +136,9 @@ impl Draft {
             return Err(LineRefusal::Fault(Fault::BadLine));
         };
         match key_of(key) {
-            Some(Key::Piece) => self.take_piece(alloc, Need::Maybe, false, false, words),
+            Some(Key::Piece) => self.take_piece(alloc, Usage::Maybe, false, words),
             Some(Key::Cells) => self.take_maybe_cells(words),
-            Some(Key::Mirror) => self.take_mirror(alloc, Need::Maybe, words),
+            Some(Key::Mirror) => self.take_mirror(alloc, Usage::Maybe, words),
             Some(Key::Box)
             | Some(Key::Cut)
             | Some(Key::Maybe)
@@ -171,8 +157,8 @@ impl Draft {
             return Err(LineRefusal::Fault(Fault::BadLine));
         };
         match key_of(key) {
-            Some(Key::Piece) => self.take_piece(alloc, Need::Any, false, false, words),
-            Some(Key::Mirror) => self.take_mirror(alloc, Need::Any, words),
+            Some(Key::Piece) => self.take_piece(alloc, Usage::Any, false, words),
+            Some(Key::Mirror) => self.take_mirror(alloc, Usage::Any, words),
             Some(Key::Cells)
             | Some(Key::Box)
             | Some(Key::Cut)
@@ -187,13 +173,13 @@ impl Draft {
     fn take_mirrored_copies(
         &mut self,
         alloc: Global,
-        need: Need,
+        usage: Usage,
         words: &[u8],
     ) -> Result<(), LineRefusal>
         ensures { Becomes result self.new
-            (reading.mirrored_copies self.old need (words_of words.now)) }
+            (reading.mirrored_copies self.old usage (words_of words.now)) }
     {
-        if !need.is_must() {
+        if !usage.is_once() {
             return Err(LineRefusal::Fault(Fault::BadLine));
         }
         self.take_copies(alloc, true, words)
@@ -201,15 +187,15 @@ impl Draft {
 
     /// Takes what a `mirror` line says after that word.
     #[tactic(auto, unfolding(crate::specs::Reading::mirror_line))]
-    fn take_mirror(&mut self, alloc: Global, need: Need, words: &[u8]) -> Result<(), LineRefusal>
-        ensures { Becomes result self.new (reading.mirror_line self.old need (words_of words.now)) }
+    fn take_mirror(&mut self, alloc: Global, usage: Usage, words: &[u8]) -> Result<(), LineRefusal>
+        ensures { Becomes result self.new (reading.mirror_line self.old usage (words_of words.now)) }
     {
         let Some((key, words)) = split_word(words) else {
             return Err(LineRefusal::Fault(Fault::BadLine));
         };
         match key_of(key) {
-            Some(Key::Piece) => self.take_piece(alloc, need, false, true, words),
-            Some(Key::Copies) => self.take_mirrored_copies(alloc, need, words),
+            Some(Key::Piece) => self.take_piece(alloc, usage, true, words),
+            Some(Key::Copies) => self.take_mirrored_copies(alloc, usage, words),
             Some(Key::Cells)
             | Some(Key::Box)
             | Some(Key::Cut)
@@ -229,13 +215,13 @@ impl Draft {
             return Ok(());
         };
         match key_of(key) {
-            Some(Key::Piece) => self.take_piece(alloc, Need::Must, false, false, words),
+            Some(Key::Piece) => self.take_piece(alloc, Usage::Once, false, words),
             Some(Key::Box) => self.take_box(words),
             Some(Key::Cells) => self.take_cells(words),
             Some(Key::Cut) => self.take_cut(words),
             Some(Key::Maybe) => self.take_maybe(alloc, words),
             Some(Key::Any) => self.take_any(alloc, words),
-            Some(Key::Mirror) => self.take_mirror(alloc, Need::Must, words),
+            Some(Key::Mirror) => self.take_mirror(alloc, Usage::Once, words),
             Some(Key::Copies) => self.take_copies(alloc, false, words),
             None => Err(LineRefusal::Fault(Fault::BadLine)),
         }
@@ -258,22 +244,16 @@ impl Draft {
 
     /// The fault of a whole text with this region, if it has one.
     fn whole_fault(&self, region: &[Cell]) -> Option<Fault>
-        ensures fault { result ≡ reading.fault_with self.now region.now }
+        ensures fault { result ≡ reading.whole_fault self.now.kinds region.now self.now.maybe_cells }
         ensures some { IfNone result (0 < length region.now) }
     {
         if region.is_empty() {
             return Some(Fault::EmptyRegion);
         }
-        if self.pieces.is_empty() {
+        if self.kinds.is_empty() {
             return Some(Fault::NoPiece);
         }
-        if are_all_named(
-            &self.pieces,
-            self.maybe_pieces.as_slice(),
-            self.any_pieces.as_slice(),
-            self.spare.as_slice(),
-        ) && are_all_in(region, &self.maybe_cells)
-        {
+        if are_unneeded(self.kinds.as_slice()) && are_all_in(region, &self.maybe_cells) {
             return Some(Fault::NothingRequired);
         }
         None
@@ -282,7 +262,7 @@ impl Draft {
     /// The region of a whole text, and its cells that may stay empty.
     #[tactic(auto, unfolding(crate::specs::Reading::whole_puzzle))]
     fn whole_region(&self, alloc: Global) -> Result<(Shape, Vec<Cell>), LineRefusal>
-        ensures { Gives (λ r. with_region self.now r.0 r.1.items) result (reading.whole_puzzle self.now) }
+        ensures { Gives (λ r. puzzle_from self.now.kinds r.0 r.1.items) result (reading.whole_puzzle self.now) }
     {
         let region = self.region(alloc)?;
         let maybe_cells = self.optional_cells(alloc)?;
@@ -292,22 +272,25 @@ impl Draft {
         Ok((Shape::new(region), maybe_cells))
     }
 
-    /// The puzzle of the pieces, with this region and these cells of it that may stay empty.
-    fn with_region(self, region: Shape, maybe_cells: Vec<Cell>) -> Puzzle
-        requires { IsPuzzle (with_region self region maybe_cells.items) }
-        ensures { result ≡ with_region self region maybe_cells.items }
+    /// The puzzle of the kinds, with this region and these cells of it that may stay empty.
+    fn with_region(
+        self,
+        alloc: Global,
+        region: Shape,
+        maybe_cells: Vec<Cell>,
+    ) -> Result<Puzzle, AllocError>
+        requires { IsPuzzle (puzzle_from self.kinds region maybe_cells.items) }
+        ensures { IfOk result (λ p. p ≡ puzzle_from self.kinds region maybe_cells.items) }
     {
-        Puzzle {
-            pieces: self.pieces,
-            maybe_pieces: self.maybe_pieces,
+        let pieces = pieces_by_name(alloc, self.kinds.as_slice())?;
+        let maybe_pieces = maybe_pieces(alloc, self.kinds.as_slice())?;
+        Ok(Puzzle {
+            kinds: self.kinds,
             region,
             maybe_cells,
-            any_pieces: self.any_pieces,
-            mirrored: self.mirrored,
-            equal: self.equal,
-            symbols: self.symbols,
-            spare: self.spare,
-        }
+            pieces,
+            maybe_pieces,
+        })
     }
 
     /// The puzzle of a whole text.
@@ -316,7 +299,7 @@ impl Draft {
         ensures { Gives (λ p. p) result (reading.whole_puzzle self) }
     {
         let (region, maybe_cells) = self.whole_region(alloc)?;
-        Ok(self.with_region(region, maybe_cells))
+        Ok(self.with_region(alloc, region, maybe_cells)?)
     }
 }
 

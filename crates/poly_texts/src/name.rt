@@ -2,7 +2,7 @@
 ghost use Rattle.std.specs.Prelude.{◌≡◌, true, IfOk, option_map};
 ghost use Rattle.poly_texts.specs.Words as words;
 
-use crate::need::Need;
+use crate::usage::Usage;
 use std::alloc::{AllocError, Global};
 use std::marker::Model;
 
@@ -36,14 +36,13 @@ impl PieceName {
     /// The symbols that a word is, as many as the line may have.
     pub(crate) fn all_of(
         alloc: Global,
-        need: Need,
-        are_several: bool,
+        usage: Usage,
         word: &[u8],
     ) -> Result<Option<Vec<PieceName>>, AllocError>
         ensures { IfOk result (λ found. option_map (λ names. names.items) found ≡
-            words.word_names need are_several word.now) }
+            words.word_names usage word.now) }
     {
-        if !are_so_many(need, are_several, word.len()) {
+        if !usage.are_so_many(word.len()) {
             return Ok(None);
         }
         let mut names = Vec::with_capacity(alloc, word.len())?;
@@ -63,14 +62,4 @@ impl PieceName {
     {
         self.symbol
     }
-}
-
-/// Whether a line may have that many symbols.
-fn are_so_many(need: Need, are_several: bool, count: usize) -> bool
-    ensures { result ≡ words.are_so_many need are_several count }
-{
-    if need.is_any() {
-        return count > 0;
-    }
-    if are_several { count > 1 } else { count == 1 }
 }

@@ -7,7 +7,7 @@ use Rattle.poly_cells.proofs.SetLemmas.{contains_from_in, in_from_contains}
 use Rattle.poly_cells.proofs.MemberLemmas.{in_from_range, in_to_range}
 use Rattle.poly_cells.proofs.NumberLemmas.{are_matrices}
 use Rattle.poly_cells.proofs.GroupLemmas.{are_rotations}
-use Rattle.poly_texts.specs.Puzzle.{PuzzleValue, names_of, has_name}
+use Rattle.poly_texts.specs.Puzzle.{PuzzleValue, pieces_of, mirrored_names, names_of, has_name}
 use Rattle.poly_place.specs.declared.alike.Group.TheVariants.{Rotations, Symmetries}
 use Rattle.poly_place.specs.Placements.{turns_by}
 use Rattle.poly_place.specs.Packings.{ChoiceValue, IsPlaced, IsPacking, pairs}
@@ -54,14 +54,14 @@ module _ (p : PuzzleValue) (c : ChoiceValue) where
   to_turned : IsPlaced p c → IsTurnedPiece p c
   to_turned h =
       let n = h.placed.symmetry in
-      let below = number_below (has_name p.mirrored c.name) n h.placed.turned in
+      let below = number_below (has_name (mirrored_names p) c.name) n h.placed.turned in
       let by = h.placed.by in
       record {
         piece = h.piece;
         m = rows_of (matrix n);
         d = by;
-        named = contains_from_in p.pieces (c.name, h.piece) h.named;
-        may_turn = to_rows (has_name p.mirrored c.name) n h.placed.turned;
+        named = contains_from_in (pieces_of p) (c.name, h.piece) h.named;
+        may_turn = to_rows (has_name (mirrored_names p) c.name) n h.placed.turned;
         onto = λ w i.
             let v = h.placed.image.onto w (in_from_contains c.cells w i) in
             (v.0, contains_from_in h.piece v.0 v.1, v.2 ∙ ap (translated by) (acts n below (point v.0)));
@@ -75,12 +75,12 @@ module _ (p : PuzzleValue) (c : ChoiceValue) where
 
   from_turned : IsTurnedPiece p c → IsPlaced p c
   from_turned h =
-      let n = to_number (has_name p.mirrored c.name) h.m h.may_turn in
+      let n = to_number (has_name (mirrored_names p) c.name) h.m h.may_turn in
       let sent : (v : Point) → translated h.d (sent_to h.m v) ≡ translated h.d (sent_by n.0 v) =
       λ v. ap (λ (m : IntegerMatrix). translated h.d (sent_to m v)) (sym n.3) ∙ ap (translated h.d) (sym (acts n.0 n.1 v)) in
       record {
         piece = h.piece;
-        named = in_from_contains p.pieces (c.name, h.piece) h.named;
+        named = in_from_contains (pieces_of p) (c.name, h.piece) h.named;
         rises = h.rises;
         placed = record {
           symmetry = n.0;
@@ -102,7 +102,7 @@ module _ (p : PuzzleValue) (chosen : ChoiceValue → Bool) where
   packs_from h = record {
     placed = λ c k. to_turned p c (h.placed c k);
     once = h.once;
-    used = λ name i. h.used name (in_from_contains (names_of p.pieces) name i);
+    used = λ name i. h.used name (in_from_contains (names_of (pieces_of p)) name i);
     filled = λ v must. let c = h.filled v must in (c.0, c.1, contains_from_in c.0.cells v c.2);
     apart = λ v c d k l i j. h.apart v c d k l (in_from_contains c.cells v i) (in_from_contains d.cells v j);
     ordered = λ c d k l i. h.ordered c d k l (in_from_contains (pairs p) (c.name, d.name) i);
@@ -113,7 +113,7 @@ module _ (p : PuzzleValue) (chosen : ChoiceValue → Bool) where
   packing_from h = record {
     placed = λ c k. from_turned p c (h.placed c k);
     once = h.once;
-    used = λ name i. h.used name (contains_from_in (names_of p.pieces) name i);
+    used = λ name i. h.used name (contains_from_in (names_of (pieces_of p)) name i);
     filled = λ v must. let c = h.filled v must in (c.0, c.1, in_from_contains c.0.cells v c.2);
     apart = λ v c d k l i j. h.apart v c d k l (contains_from_in c.cells v i) (contains_from_in d.cells v j);
     ordered = λ c d k l i. h.ordered c d k l (contains_from_in (pairs p) (c.name, d.name) i);

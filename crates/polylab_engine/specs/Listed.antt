@@ -14,7 +14,7 @@ use Rattle.std.specs.Cmp.Lexicographic.{slice_cmp}
 use Rattle.text_lines.specs.Writing.{line_text, text_of}
 use Rattle.cover_problem.specs.Problem.{ProblemValue}
 use Rattle.cover_problem.specs.Grammar.{written, IsCoverText}
-use Rattle.poly_texts.specs.Puzzle.{PuzzleValue}
+use Rattle.poly_texts.specs.Puzzle.{PuzzleValue, copy_symbols}
 use Rattle.poly_texts.specs.Grammar.{IsPuzzleText}
 use Rattle.poly_place.specs.Packings.{ChoiceValue, packing_problem}
 use Rattle.poly_place.specs.Chosen.{PackingValue, same_choice, is_among}
@@ -107,7 +107,7 @@ pub record AreAllPackings (p : PuzzleValue) (packings : List (List ChoiceValue))
 
 -- the packing of these choices, with what is shown of the puzzle
 abbrev pub packing_of : PuzzleValue → List ChoiceValue → PackingValue
-packing_of p cs = record { region = p.region; maybe_cells = p.maybe_cells; placements = cs; symbols = p.symbols }
+packing_of p cs = record { region = p.region; maybe_cells = p.maybe_cells; placements = cs; symbols = copy_symbols p }
 
 -- the packings, numbered from k on: each with its number and its layers
 abbrev pub shown_from : PuzzleValue → ℕ → List (List ChoiceValue) → List ℕ

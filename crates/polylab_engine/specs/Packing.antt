@@ -7,7 +7,7 @@ use Rattle.std.specs.List.Sorted.{IsStrictlySortedBy}
 use Rattle.std.specs.declared.cmp.Ordering.TheVariants.{Less}
 use Rattle.poly_cells.specs.Coordinates.{Coordinates, coordinates_cmp}
 use Rattle.poly_cells.specs.Points.{Point, point, translated}
-use Rattle.poly_texts.specs.Puzzle.{PuzzleValue, names_of, has_name, is_needed, is_spare}
+use Rattle.poly_texts.specs.Puzzle.{PuzzleValue, pieces_of, mirrored_names, names_of, has_name, is_needed, is_spare}
 use Rattle.poly_place.specs.Packings.{ChoiceValue, is_any, pairs, first_cell, must_fill, IsUsed}
 use Rattle.polylab_engine.specs.Matrices.{IntegerMatrix, IsOrthogonal, sent_to, determinant_of}
 
@@ -17,8 +17,8 @@ pub record IsTurnedPiece (p : PuzzleValue) (c : ChoiceValue) : Type 0 where
   pub piece : List Coordinates
   pub m : IntegerMatrix
   pub d : Point
-  pub named : Contains p.pieces (c.name, piece)
-  pub may_turn : IsOrthogonal m × ((determinant_of m ≡ pos 1) ⊎ (has_name p.mirrored c.name ≡ true))
+  pub named : Contains (pieces_of p) (c.name, piece)
+  pub may_turn : IsOrthogonal m × ((determinant_of m ≡ pos 1) ⊎ (has_name (mirrored_names p) c.name ≡ true))
   pub onto : (w : Coordinates) → Contains c.cells w → (v : Coordinates) × Contains piece v × (point w ≡ translated d (sent_to m (point v)))
   pub into : (v : Coordinates) → Contains piece v → (w : Coordinates) × Contains c.cells w × (point w ≡ translated d (sent_to m (point v)))
   pub inside : (w : Coordinates) → Contains c.cells w → Contains p.region w
@@ -31,7 +31,7 @@ pub record IsTurnedPiece (p : PuzzleValue) (c : ChoiceValue) : Type 0 where
 pub record Packs (p : PuzzleValue) (chosen : ChoiceValue → Bool) : Type 0 where
   pub placed : (c : ChoiceValue) → chosen c ≡ true → IsTurnedPiece p c
   pub once : (c d : ChoiceValue) → chosen c ≡ true → chosen d ≡ true → is_any p c.name ≡ false → c.name ≡ d.name → c ≡ d
-  pub used : (name : ℕ) → Contains (names_of p.pieces) name → is_needed p name ≡ true → is_spare p name ≡ false → IsUsed chosen name
+  pub used : (name : ℕ) → Contains (names_of (pieces_of p)) name → is_needed p name ≡ true → is_spare p name ≡ false → IsUsed chosen name
   pub filled : (v : Coordinates) → must_fill p v ≡ true → (c : ChoiceValue) × (chosen c ≡ true) × Contains c.cells v
   pub apart : (v : Coordinates) (c d : ChoiceValue) → chosen c ≡ true → chosen d ≡ true → Contains c.cells v → Contains d.cells v → c ≡ d
   pub ordered : (c d : ChoiceValue) → chosen c ≡ true → chosen d ≡ true → Contains (pairs p) (c.name, d.name)

@@ -6,4 +6,4 @@ use Rattle.poly_distinct.proofs.exchange.is_reached.Given as goal
 -- those that are left tell
 abbrev pub invariant-loop-other : goal.invariant-loop-other
 invariant-loop-other l =
-    list_any (λ o. second_of l.pairs o.name == l.name) (drop l.other-index l.kinds) ≡ list_any (λ o. second_of l.pairs o.name == l.name) l.kinds
+    list_any (λ o. second_of l.pairs o.name == l.name) (drop l.other-index l.pieces) ≡ list_any (λ o. second_of l.pairs o.name == l.name) l.pieces

@@ -5,6 +5,6 @@ use Rattle.poly_distinct.specs.Exchange.{second_of}
 use Rattle.poly_distinct.proofs.exchange.keep_flags.Given as goal
 
 -- those that are left tell
-abbrev pub invariant-loop-kind : goal.invariant-loop-kind
-invariant-loop-kind l =
-    list_all (λ k. keeps_flags l.puzzle (second_of l.pairs) k.name) (drop l.kind-index l.kinds) ≡ list_all (λ k. keeps_flags l.puzzle (second_of l.pairs) k.name) l.kinds
+abbrev pub invariant-loop-piece : goal.invariant-loop-piece
+invariant-loop-piece l =
+    list_all (λ k. keeps_flags l.puzzle (second_of l.pairs) k.name) (drop l.piece-index l.pieces) ≡ list_all (λ k. keeps_flags l.puzzle (second_of l.pairs) k.name) l.pieces

@@ -6,4 +6,4 @@ use Rattle.poly_distinct.proofs.exchange.mirrors_piece.Given as goal
 -- those that are left tell
 abbrev pub invariant-loop-other : goal.invariant-loop-other
 invariant-loop-other l =
-    list_any (λ o. (o.name == second_of l.pairs l.kind.name) && has_form o.images l.kind.piece) (drop l.other-index l.kinds) ≡ list_any (λ o. (o.name == second_of l.pairs l.kind.name) && has_form o.images l.kind.piece) l.kinds
+    list_any (λ o. (o.name == second_of l.pairs l.piece.name) && has_form o.images l.piece.cells) (drop l.other-index l.pieces) ≡ list_any (λ o. (o.name == second_of l.pairs l.piece.name) && has_form o.images l.piece.cells) l.pieces

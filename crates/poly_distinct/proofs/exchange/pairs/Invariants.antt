@@ -3,5 +3,5 @@ use Rattle.poly_distinct.specs.Exchange.{partner}
 use Rattle.poly_distinct.proofs.exchange.pairs.Given as goal
 
 -- the pairs so far
-abbrev pub invariant-loop-kind : goal.invariant-loop-kind
-invariant-loop-kind l = l.pairs.items ≡ map (λ k. (k.name, partner l.kinds k)) (take l.kind-index l.kinds)
+abbrev pub invariant-loop-piece : goal.invariant-loop-piece
+invariant-loop-piece l = l.pairs.items ≡ map (λ k. (k.name, partner l.pieces k)) (take l.piece-index l.pieces)

@@ -6,4 +6,4 @@ use Rattle.poly_distinct.proofs.exchange.partner.Given as goal
 -- none of the pieces so far is the one
 abbrev pub invariant-loop-other : goal.invariant-loop-other
 invariant-loop-other l =
-    first_of (λ k. k.name) (λ k. is_image l.kind k && (rank_among l.kinds k == rank_among l.kinds l.kind)) l.kind.name (drop l.other-index l.kinds) ≡ partner l.kinds l.kind
+    first_of (λ k. k.name) (λ k. is_image l.piece k && (rank_among l.pieces k == rank_among l.pieces l.piece)) l.piece.name (drop l.other-index l.pieces) ≡ partner l.pieces l.piece

@@ -1,5 +1,5 @@
 use Rattle.std.proofs.Common.{◌≡◌, ◌+◌, drop, length}
-use Rattle.poly_texts.specs.Lists.{lists_of}
+use Rattle.poly_place.specs.Lists.{lists_of}
 use Rattle.poly_place.specs.Forms.{least_from}
 use Rattle.poly_distinct.proofs.form.least_form.Given as goal
 

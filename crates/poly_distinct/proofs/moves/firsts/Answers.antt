@@ -1,6 +1,6 @@
 use Rattle.std.proofs.Common.{◌∙◌, ℕ, Some, ap, get_or, refl, sym}
 use Rattle.poly_cells.proofs.SetLemmas.{in_at}
-use Rattle.poly_texts.specs.Lists.{lists_of}
+use Rattle.poly_place.specs.Lists.{lists_of}
 use Rattle.poly_place.proofs.CountLemmas.{one_kept, one_left}
 use Rattle.poly_distinct.specs.Moves.{is_least_by}
 use Rattle.poly_distinct.proofs.StepLemmas.{read_at}

@@ -1,5 +1,5 @@
 use Rattle.std.proofs.Common.{◌≡◌, Some, filter, take}
-use Rattle.poly_texts.specs.Lists.{lists_of}
+use Rattle.poly_place.specs.Lists.{lists_of}
 use Rattle.poly_distinct.specs.Moves.{is_least_by}
 use Rattle.poly_distinct.proofs.moves.firsts.Given as goal
 

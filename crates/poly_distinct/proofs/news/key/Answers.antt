@@ -1,6 +1,6 @@
 use Rattle.std.proofs.Common.{ℕ, sym, ap, subst, ◌∙◌}
 use Rattle.shared_words.specs.Answers.{ReturnsItems}
-use Rattle.poly_texts.specs.Lists.{lists_of}
+use Rattle.poly_place.specs.Lists.{lists_of}
 use Rattle.poly_place.specs.Chosen.{PackingValue}
 use Rattle.poly_place.specs.Forms.{key_of, parts_in}
 use Rattle.poly_distinct.specs.Form.{EachIsMove, IsMove}

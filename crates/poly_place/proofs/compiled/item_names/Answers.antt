@@ -1,6 +1,5 @@
-use Rattle.poly_texts.specs.Puzzle.{PuzzleValue}
-use Rattle.poly_place.specs.Packings.{nodes, pairs, thing_name}
-use Rattle.std.proofs.Common.{flat_map, ℕ, List, [], ◌∷◌, ◌++◌, map, ap, ap₂, ◌∙◌}
+use Rattle.poly_texts.specs.Puzzle.{PuzzleValue, maybe_names}
+use Rattle.std.proofs.Common.{refl, ℕ, List, [], ◌∷◌, ◌++◌, map, ap, ap₂, ◌∙◌}
 use Rattle.std.specs.String.{string_bytes}
 use Rattle.poly_cells.specs.CellWords.{cell_word}
 use Rattle.poly_place.proofs.MadeLemmas.{names_are}
@@ -18,7 +17,7 @@ returns c =
     ∙ ap₂ both
     (c.in_ok-add_cell_names.ensures
     ∙ ap₂ both (c.in_ok-add_piece_names.ensures ∙ ap₂ both (ap (map string_bytes) c.new-names.ensures.items) (ap piece_names c.requires.pieces)) (ap (map cell_word) c.requires.cells))
-    (ap piece_names c.maybe_pieces.ensures))
-    (ap (map cell_word) c.maybe_cells.ensures))
-    (ap (λ (p : PuzzleValue). map thing_name (flat_map (nodes p) (pairs p))) c.requires.numbers)
-    ∙ names_are c.args.puzzle.now
+    (ap piece_names (c.maybe_pieces.ensures ∙ ap maybe_names c.puzzle-puzzle.ensures)))
+    (ap (map cell_word) (c.maybe_cells.ensures ∙ ap (λ (p : PuzzleValue). p.maybe_cells) c.puzzle-puzzle.ensures)))
+    refl
+    ∙ names_are c.args.numbers.now

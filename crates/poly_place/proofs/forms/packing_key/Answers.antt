@@ -1,7 +1,7 @@
 use Rattle.std.proofs.Common.{ℕ, ◌+◌, List, length, sym, ap, subst, ◌∙◌}
 use Rattle.std.proofs.lemmas.List.{length-map}
 use Rattle.std.proofs.lemmas.Result.{IfOk-weaker}
-use Rattle.poly_texts.specs.Lists.{lists_of}
+use Rattle.poly_place.specs.Lists.{lists_of}
 use Rattle.poly_place.specs.Classes.{part_at}
 use Rattle.poly_place.specs.Forms.{AreBelow, AllAreBelow, least_form, parts_in}
 use Rattle.poly_place.proofs.FormTableLemmas.{parts_below}

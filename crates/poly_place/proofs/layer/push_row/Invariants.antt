@@ -8,6 +8,6 @@ use Rattle.poly_place.proofs.layer.push_row.Given as goal
 -- the symbols up to x are added
 abbrev pub invariant-loop-x : goal.invariant-loop-x
 invariant-loop-x l = record {
-  added : (f : Coordinates → ℕ) → AreSymbols f l.symbols → string_bytes l.text ≡ string_bytes l.initial.text ++ map (λ x. f (coordinates x l.y l.z)) (range_with_len l.fn.low.x (l.x - l.fn.low.x));
-  end : (l.x ≤ l.x-end) ⊎ (l.x ≡ l.fn.low.x);
+  added : (f : Coordinates → ℕ) → AreSymbols f l.symbols → string_bytes l.text ≡ string_bytes l.initial.text ++ map (λ x. f (coordinates x l.y l.z)) (range_with_len (l.fn.ends.0) (l.x - l.fn.ends.0));
+  end : (l.x ≤ l.x-end) ⊎ (l.x ≡ l.fn.ends.0);
 }

@@ -1,9 +1,12 @@
-use Rattle.std.proofs.Common.{◌∙◌, ◌++◌, ap, ℕ, List}
+use Rattle.std.proofs.Common.{◌∙◌, ap, arith, List, flat_map, take_all}
+use Rattle.poly_texts.specs.Usages.{are_copies}
+use Rattle.poly_texts.specs.Kinds.{KindValue, given_if}
 use Rattle.poly_place.specs.Packings.{neighbours}
-use Rattle.poly_place.proofs.NodeLemmas.{group_more}
+use Rattle.poly_place.proofs.GroupLemmas.{of_groups}
 use Rattle.poly_place.proofs.nodes.pairs_of.Goals as goal
 
-pub loop-group-preserved : goal.loop-group-preserved
-loop-group-preserved c =
-    group_more c.args.groups.now c.loop-group.group-index c.group-item.result _ _ c.loop-group-test.true c.group-item.is
-    (c.in_ok-add_neighbours.ensures ∙ ap (λ (ns : List ℕ). c.loop-group.pairs.items ++ neighbours ns) c.as_slice.ensures.value) c.loop-group.invariant
+pub returns : goal.returns
+returns c =
+    c.loop-kind.invariant
+    ∙ ap (λ (ks : List KindValue). flat_map (λ k. given_if (are_copies k.usage) (neighbours k.symbols)) ks) (take_all c.loop-kind.kind-index c.args.kinds.now (omega (arith, c.loop-kind-test.false)))
+    ∙ of_groups neighbours c.args.kinds.now

@@ -8,7 +8,7 @@ pub returns-in-Some-clause-value : goal.returns-in-Some-clause-value
 returns-in-Some-clause-value c =
     let word = c.in-Some.word.now in
     turn_is _ word _ (c.copy_rank.result % length word) c.args.choice.now.name c.symbol.result
-    (c.in-Some.ensures.value ∙ ap₂ (λ (n : ℕ) (words : List (List ℕ)). find (begins_with n) words) c.name.ensures c.symbols.ensures)
+    (c.in-Some.ensures.value ∙ ap₂ (λ (n : ℕ) (words : List (List ℕ)). find (begins_with n) words) c.name.ensures c.kinds.ensures)
     (ap (λ (k : ℕ). k % length word) (c.copy_rank.ensures ∙ ap (λ (cs : List ChoiceValue). copy_rank cs c.args.choice.now) c.placements.ensures))
     c.in-Some.ensures.some
     (subst (λ (n : ℕ). n ≡ get_or word (c.copy_rank.result % length word) n) (sym c.symbol.ensures.value) c.index-word-copy_rank.is)

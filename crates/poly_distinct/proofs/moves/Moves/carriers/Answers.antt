@@ -1,6 +1,6 @@
 use Rattle.std.proofs.Common.{ℕ, Vec, List, map, vec_items, sym, subst}
 use Rattle.std.specs.declared.alloc.Global.{Global}
-use Rattle.poly_texts.specs.Lists.{lists_of}
+use Rattle.poly_place.specs.Lists.{lists_of}
 use Rattle.poly_place.specs.Forms.{AreCarriers}
 use Rattle.poly_distinct.specs.Moves.{MovesValue, AreMoves}
 use Rattle.poly_distinct.proofs.moves.Moves.carriers.Goals as goal

@@ -1,6 +1,6 @@
 use Rattle.std.proofs.Common.{ℕ, List, map, vec_items, ap, subst, sym, filter, Some, ◌∙◌}
 use Rattle.shared_words.specs.Answers.{ReturnsItems}
-use Rattle.poly_texts.specs.Lists.{lists_of}
+use Rattle.poly_place.specs.Lists.{lists_of}
 use Rattle.poly_distinct.specs.Moves.{HavePlaces, MovesValue, AreMoves, is_least_by}
 use Rattle.poly_distinct.proofs.MovesLemmas.{have_below, firsts_are}
 use Rattle.poly_distinct.proofs.moves.Moves.first_among.Goals as goal

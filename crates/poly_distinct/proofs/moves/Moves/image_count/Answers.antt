@@ -1,6 +1,6 @@
 use Rattle.std.proofs.Common.{map, vec_items, ap, sym, subst, ◌∙◌}
 use Rattle.std.proofs.lemmas.List.{length-map}
-use Rattle.poly_texts.specs.Lists.{lists_of}
+use Rattle.poly_place.specs.Lists.{lists_of}
 use Rattle.poly_distinct.specs.Moves.{MovesValue, AreMoves, thing_of}
 use Rattle.poly_distinct.proofs.MovesLemmas.{have_by}
 use Rattle.poly_distinct.proofs.ImageCountLemmas.{images_counted}

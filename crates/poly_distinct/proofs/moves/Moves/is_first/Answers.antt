@@ -1,6 +1,6 @@
 use Rattle.std.proofs.Common.{Bool, map, vec_items, ap, subst, ◌∙◌}
 use Rattle.shared_words.specs.Answers.{Returns}
-use Rattle.poly_texts.specs.Lists.{lists_of}
+use Rattle.poly_place.specs.Lists.{lists_of}
 use Rattle.poly_distinct.specs.Moves.{MovesValue, AreMoves, thing_of}
 use Rattle.poly_distinct.proofs.MovesLemmas.{have_by, least_by}
 use Rattle.poly_distinct.proofs.moves.Moves.is_first.Goals as goal

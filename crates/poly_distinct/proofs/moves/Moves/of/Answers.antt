@@ -1,6 +1,6 @@
 use Rattle.std.proofs.Common.{List, sym, subst, ◌∙◌}
 use Rattle.poly_cells.specs.Coordinates.{Coordinates}
-use Rattle.poly_texts.specs.Lists.{lists_of}
+use Rattle.poly_place.specs.Lists.{lists_of}
 use Rattle.poly_cells.specs.Shapes.{IsShape}
 use Rattle.poly_place.specs.Compiled.{ArePlacesOf}
 use Rattle.poly_place.specs.Forms.{AreCarriers}

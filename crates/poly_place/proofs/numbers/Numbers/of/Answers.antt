@@ -1,4 +1,6 @@
-use Rattle.std.proofs.Common.{◌^◌, ◌∙◌, ℕ, arith, ap, flat_map, length}
+use Rattle.std.proofs.Common.{◌^◌, ◌∙◌, ℕ, arith, ap, flat_map, length, List}
+use Rattle.poly_texts.specs.Kinds.{KindValue, kind_equal}
+use Rattle.poly_texts.specs.Puzzle.{equal_names}
 use Rattle.poly_place.specs.Packings.{levels_for, neighbours}
 use Rattle.poly_place.proofs.CountLemmas.{are_few, needed_count}
 use Rattle.poly_place.proofs.NumberedLemmas.{levels_are}
@@ -31,6 +33,7 @@ overflow_cast-before c =
     omega arith
 
 pub invariant_of-result : goal.invariant_of-result
+unfolding equal_names
 invariant_of-result c =
     let count = needed_count c.args.puzzle.now in
     let a = ap length c.requires.pieces in
@@ -41,7 +44,7 @@ invariant_of-result c =
     record {
       items = c.in_ok-numbers.ensures;
       places_are = c.in_ok-places.ensures;
-      pairs_same = c.in_ok-pairs.ensures ∙ ap (flat_map neighbours) c.equal.ensures;
+      pairs_same = c.in_ok-pairs.ensures ∙ ap (λ (ks : List KindValue). flat_map neighbours (flat_map kind_equal ks)) c.kinds.ensures;
       levels_same = c.tree_for-levels.ensures.levels ∙ same;
       leaves_same = c.tree_for-levels.ensures.leaves ∙ ap (λ (k : ℕ). 2 ^ k) same;
       before_same = omega arith;

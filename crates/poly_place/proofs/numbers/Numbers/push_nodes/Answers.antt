@@ -1,7 +1,7 @@
-use Rattle.std.proofs.Common.{◌≡◌, ◌<◌, ◌+◌, ◌-◌, ◌^◌, ◌∙◌, ℕ, List, get_or, arith, ap, ap₂, length, subst}
+use Rattle.std.proofs.Common.{◌≡◌, ◌==◌, ◌++◌, Bool, ◌<◌, ◌+◌, ◌-◌, ◌^◌, ◌∙◌, ℕ, List, get_or, arith, ap, ap₂, length, subst}
 use Rattle.poly_texts.specs.Puzzle.{PuzzleValue}
 use Rattle.poly_place.specs.Packings.{thing_item, tree_levels, nodes_by, pairs}
-use Rattle.poly_place.specs.Compiled.{before_nodes, pair_items}
+use Rattle.poly_place.specs.Compiled.{before_nodes, numbers_if, items_from_right, items_from_left, pair_items}
 use Rattle.poly_place.proofs.NumberedLemmas.{before_low, choice_leaf, flat_more, leaf_low, leaves_few, one_tree_more, pair_same}
 use Rattle.poly_place.proofs.numbers.Numbers.push_nodes.Goals as goal
 
@@ -31,7 +31,8 @@ loop-pair-preserved c =
     let lt = subst (λ (qs : List (ℕ × ℕ)). c.loop-pair.pair-index < length qs) same c.loop-pair-test.true in
     let is = subst (λ (qs : List (ℕ × ℕ)). c.pair-item.result ≡ get_or qs c.loop-pair.pair-index c.pair-item.result) same c.pair-item.is in
     let made =
-    ap (λ (n : ℕ). pair_items n c.pair-item.result c.loop-pair.before c.self.inside.levels c.leaf_of-leaf.result) c.name.ensures
+    ap₂ (λ (a b : Bool). numbers_if a (items_from_right c.loop-pair.before c.self.inside.levels c.leaf_of-leaf.result) ++ numbers_if b (items_from_left c.loop-pair.before c.self.inside.levels c.leaf_of-leaf.result))
+    (c.sides_of-sides.ensures.first ∙ ap (λ (n : ℕ). n == c.pair-item.result.0) c.name.ensures) (c.sides_of-sides.ensures.second ∙ ap (λ (n : ℕ). n == c.pair-item.result.1) c.name.ensures)
     ∙ ap₂ (λ (l f : ℕ). pair_items c.args.choice.now.name c.pair-item.result c.loop-pair.before l f) (c.self.invariant.levels_same ∙ ap tree_levels c.self.view_is) c.leaf_of-leaf.ensures
     ∙ pair_same c.args.self.now c.requires.puzzle c.loop-pair.pair-index c.args.choice.now (choice_leaf c.args.self.now c.requires.puzzle c.args.choice.now c.requires.member) lt c.pair-item.result is c.loop-pair.before
     c.loop-pair.invariant.count in

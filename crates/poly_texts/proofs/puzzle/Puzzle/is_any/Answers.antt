@@ -1,0 +1,15 @@
+use Rattle.std.proofs.Common.{◌∙◌, ap, sym}
+use Rattle.poly_texts.specs.Usages.{is_repeatable}
+use Rattle.poly_texts.specs.Puzzle.{pieces_of, any_names}
+use Rattle.poly_texts.proofs.EqualLemmas.{given_of, given_none}
+use Rattle.poly_texts.proofs.puzzle.Puzzle.is_any.Goals as goal
+
+pub returns-in-Some : goal.returns-in-Some
+unfolding any_names
+returns-in-Some c =
+    c.is_any.ensures ∙ ap is_repeatable c.usage.ensures
+    ∙ sym (given_of c.args.self.now c.kind_of.ensures.puzzle (λ j. is_repeatable j.usage) c.in-Some.kind.now c.in-Some.ensures.kind c.args.name c.in-Some.ensures.named)
+
+pub returns-in-None : goal.returns-in-None
+unfolding pieces_of any_names
+returns-in-None c = sym (given_none c.args.self.now c.kind_of.ensures.puzzle (λ j. is_repeatable j.usage) c.args.name c.in-None.ensures.none)

@@ -1,15 +1,18 @@
 -- One more item is covered, and one less, and the set of the options left is written.
 use Rattle.std.proofs.Common.{◌≡◌, ℕ, ◌+◌, ◌-◌, ◌*◌, ◌<◌, ◌≤◌, ◌⊎◌, ◌==◌, nat_lt, Bool, true, false, not, ◌&&◌, ◌||◌, List, [], ◌∷◌, ◌++◌, length, get_or, take, drop, set, refl, sym, ap, ap₂, subst, ◌∙◌, inl, inr, arith, le_refl, length-append, length-set, take_all}
-use Rattle.std.specs.List.{list_all}
+use Rattle.std.specs.List.{list_all, All}
 use Rattle.std.proofs.lemmas.Bool.{cases_lt, cases_eq, lt-ltb, le-ltb, eq-eqb, ne_eqb, and_left, and_parts, false_from_ne_true}
 use Rattle.std.proofs.lemmas.List.{take-append-le, take-append-drop, get_or-set_same, get_or-set_other}
 use Rattle.std.proofs.lemmas.List.Folds.{list_all-append}
+use Rattle.std.proofs.lemmas.List.Sums.{AllPass-from_list_all}
 use Rattle.shared_words.specs.Lists.{has}
 use Rattle.cover_problem.specs.Problem.{ProblemValue, is_item}
 use Rattle.cover_problem.specs.Coverable.{IsUncovered}
 use Rattle.cover_problem.specs.Table.{IsCoveredList}
-use Rattle.cover_problem.proofs.CoveredLemmas.{covered_push, covered_last, covered_pop, covered_most, covered_room}
+use Rattle.cover_problem.proofs.BoundLemmas.{item_bounds}
+use Rattle.cover_problem.proofs.CoveredLemmas.{covered_push, covered_last, covered_front, covered_most, covered_room}
 use Rattle.cover_problem.proofs.MemberLemmas.{has-append}
+use Rattle.cover_problem.proofs.PartLemmas.{distinct_parts}
 use Rattle.cover_bits.specs.declared.sets.Part.{Part}
 use Rattle.cover_bits.specs.Parts.{in_row, in_parts, ArePlaced}
 use Rattle.cover_bits.specs.Bits.{set_at, is_left, AreLeft, AreActive, IsBits, IsNextSet}
@@ -86,10 +89,11 @@ module _ {p : ProblemValue} {options primary words : ℕ} {columns : List ℕ} {
       sets_at d m (inl l) = set_is (get_or bases (length c) 0) (get_or (set bases (length c + 1) (get_or bases (length c) 0)) d 0) last (new d m l) (h.sets_are (length c) (le_refl (length c)))
       sets_at d m (inr l) = let b = h.below d l in set_is (get_or bases d 0) (get_or (set bases (length c + 1) (get_or bases (length c) 0)) d 0) (omega arith) (old d l) (h.sets_are d l)
 
-  pub bits_uncovered : (i : ℕ) (active2 c2 : List ℕ) (room2 : ℕ) → c ≡ c2 ++ i ∷ []
+  -- the items that were covered last are given back
+  pub bits_uncovered : (back active2 c2 : List ℕ) (room2 : ℕ) → c ≡ c2 ++ back
       → length active2 ≡ length active → AreActive p c2 active2 → room ≤ room2
       → IsBits p options primary words columns parts counts bases active2 c2 room2
-  bits_uncovered i active2 c2 room2 e long act r =
+  bits_uncovered back active2 c2 room2 e long act r =
       record {
         sound = h.sound;
         options_are = h.options_are;
@@ -104,16 +108,16 @@ module _ {p : ProblemValue} {options primary words : ℕ} {columns : List ℕ} {
         below = λ d l. h.below d (longer d l);
         rise = λ d e le l. h.rise d e le (longer e l);
         sets_are = λ d l. subst (λ x. AreLeft p x words (set_at words parts counts (get_or bases d 0)))
-            (ap (take (get_or bases d 0)) e ∙ take-append-le (get_or bases d 0) c2 (i ∷ []) (let b = h.below d (longer d l) in omega arith))
+            (ap (take (get_or bases d 0)) e ∙ take-append-le (get_or bases d 0) c2 back (let b = h.below d (longer d l) in omega arith))
             (h.sets_are d (longer d l));
         active_long = long ∙ h.active_long;
         active_are = act;
-        distinct = covered_pop p c2 i (subst (λ x. IsCoveredList p x) e h.distinct);
+        distinct = covered_front p c2 back (subst (λ x. IsCoveredList p x) e h.distinct);
         fits = let f = h.fits in omega arith;
       }
     where
       longer : (d : ℕ) → d ≤ length c2 → d ≤ length c
-      longer d l = let n = ap (λ x. length x) e in let m = length-append c2 (i ∷ []) in omega arith
+      longer d l = let n = ap (λ x. length x) e in let m = length-append c2 back in omega arith
 
   -- the set of the options left now is written
   pub bits_settled : (base : ℕ) → base ≡ get_or bases (length c) 0 → (parts2 : List Part) (counts2 bases2 : List ℕ) → bases2 ≡ set bases (length c) (length c)
@@ -248,6 +252,27 @@ module _ (p : ProblemValue) (c : List ℕ) (active active2 : List ℕ) (i : ℕ)
           or-none false = refl
       by (inr m) = and_left _ _ (le-ltb k p.primary m) ∙ sym (and_left _ _ (le-ltb k p.primary m))
 
+-- the items that are given back are active again, but for those that need not be covered
+pub active_back : (p : ProblemValue) (c back active active2 : List ℕ) → IsCoveredList p (c ++ back) → AreActive p (c ++ back) active
+    → ((k : ℕ) → in_row active2 k ≡ (in_row active k || (nat_lt k p.primary && has back (k + 1)))) → AreActive p c active2
+active_back p c back active active2 cov act each k =
+    each k ∙ ap (λ b. b || (nat_lt k p.primary && has back (k + 1))) (act k ∙ ap (λ b. nat_lt k p.primary && not b) (has-append c back (k + 1)))
+    ∙ by (nat_lt k p.primary) (has c (k + 1)) (has back (k + 1)) ((distinct_parts c back cov.distinct).2 (k + 1))
+  where
+    by : (l h b : Bool) → (h ≡ true → b ≡ false) → ((l && not (h || b)) || (l && b)) ≡ (l && not h)
+    by true true b apart = apart refl
+    by true false true apart = refl
+    by true false false apart = refl
+    by false h b apart = refl
+
+-- items that are covered have numbers from 1 on
+pub covered_some : (p : ProblemValue) (c : List ℕ) (depth : ℕ) → IsCoveredList p c → All (λ i. 0 < i) (drop depth c)
+covered_some p c depth cov k d l =
+    let all : list_all (is_item (length p.names)) (drop depth c) ≡ true =
+    (and_parts (list_all (is_item (length p.names)) (take depth c)) (list_all (is_item (length p.names)) (drop depth c))
+    (sym (list_all-append (is_item (length p.names)) (take depth c) (drop depth c)) ∙ ap (list_all (is_item (length p.names))) (take-append-drop depth c) ∙ cov.items)).1 in
+    (item_bounds (length p.names) (get_or (drop depth c) k d) (AllPass-from_list_all (is_item (length p.names)) (drop depth c) all k d l)).0
+
 -- what a vector has once it was lent as a slice of the same length
 pub lent : {X : Type 0} (len : ℕ) (new old : List X) → length new ≡ length old → len ≡ length old → take len (new ++ drop (length new) old) ≡ new
 lent len new old a b = take-append-le len new (drop (length new) old) (omega arith) ∙ take_all len new (omega arith)
@@ -274,11 +299,23 @@ module _ {p : ProblemValue} {options primary words : ℕ} {columns : List ℕ} {
       let both : IsCoveredList p (c2 ++ i ∷ []) = subst (λ x. IsCoveredList p x) f h.distinct in
       let act : AreActive p (c2 ++ i ∷ []) active = subst (λ x. AreActive p x active) f h.active_are in
       rw (lent alen active2 active la z)
-      (bits_uncovered h i active2 c2 room2 f la (now act (covered_last p c2 i both).some (covered_last p c2 i both).uncovered (cases_lt primary i)) g)
+      (bits_uncovered h (i ∷ []) active2 c2 room2 f la (now act (covered_last p c2 i both).some (covered_last p c2 i both).uncovered (cases_lt primary i)) g)
     where
       now : AreActive p (c2 ++ i ∷ []) active → 0 < i → has c2 i ≡ false → (primary < i) ⊎ (i ≤ primary) → AreActive p c2 active2
       now act some free (inl l) = subst (λ xs. AreActive p c2 xs) (sym (kept l ∙ e)) (active_stays p c2 active active i some act (let q = h.primary_is in omega arith))
       now act some free (inr l) = active_added p c2 active active2 i some act free (let q = h.primary_is in omega arith) (λ k. added l k ∙ ap (λ xs. in_row xs k || (k == i - 1)) e)
+
+  -- the same where several are given back at once
+  pub given_back_fields : (back acts active2 : List ℕ) → acts ≡ active → length active2 ≡ length acts
+      → ((k : ℕ) → in_row active2 k ≡ (in_row acts k || (nat_lt k primary && has back (k + 1))))
+      → (alen : ℕ) → alen ≡ length active → (c2 : List ℕ) (room2 : ℕ) → c ≡ c2 ++ back → room ≤ room2
+      → IsBits p options primary words columns parts counts bases (take alen (active2 ++ drop (length active2) active)) c2 room2
+  given_back_fields back acts active2 e long each alen z c2 room2 f g =
+      let la : length active2 ≡ length active = long ∙ ap (λ xs. length xs) e in
+      rw (lent alen active2 active la z)
+      (bits_uncovered h back active2 c2 room2 f la
+      (active_back p c2 back active active2 (subst (λ x. IsCoveredList p x) f h.distinct) (subst (λ x. AreActive p x active) f h.active_are)
+      (λ k. each k ∙ ap₂ (λ xs n. in_row xs k || (nat_lt k n && has back (k + 1))) e h.primary_is)) g)
 
   -- the set that is written then rests on one that is there
   pub settle_base : (depth base : ℕ) → depth ≡ length c → base ≡ get_or bases depth base → (base ≡ get_or bases (length c) 0) × (base ≤ length c)

@@ -55,6 +55,10 @@ ones_of_both parts row = sum_by (λ part. count_ones (shared row part)) parts
 abbrev pub is_some_part : Part → Bool
 is_some_part part = not (part.word == 0)
 
+-- the bits that stand, in the word at a place, for numbers from `start` on
+abbrev pub mask_from : ℕ → ℕ → ℕ
+mask_from start place = cond (nat_lt (start / 64) place) (2 ^ 64 - 1) (cond (place == start / 64) (2 ^ 64 - 2 ^ (start % 64)) 0)
+
 -- the same word as `shared`, without the numbers below one
 abbrev pub shared_from : List ℕ → ℕ → Part → ℕ
 shared_from row start part =

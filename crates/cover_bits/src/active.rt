@@ -1,6 +1,6 @@
 //! Which items are active, and since when the others are covered.
-ghost use Rattle.std.specs.Prelude.{◌≡◌, ◌<◌, ◌≤◌, ◌-◌, ◌*◌, ◌&&◌, ◌||◌, ◌==◌, ◌↔◌, IsTrue, not, true, false, ℕ, length};
-ghost use Rattle.std.specs.List.{position_or_len};
+ghost use Rattle.std.specs.Prelude.{◌≡◌, ◌<◌, ◌≤◌, ◌+◌, ◌-◌, ◌*◌, ◌&&◌, ◌||◌, ◌==◌, ◌↔◌, IsTrue, IfSome, not, nat_lt, true, false, ℕ, length};
+ghost use Rattle.std.specs.List.{All, position_or_len};
 ghost use Rattle.shared_words.specs.Lists as members;
 ghost use Rattle.shared_words.specs.Lists.{are_distinct};
 ghost use Rattle.cover_bits.specs.Parts.{in_row};
@@ -29,6 +29,19 @@ pub fn activate(active: &mut [u64], primary: u32, item: u32)
 {
     if item <= primary {
         add(active, (item - 1) as usize);
+    }
+}
+
+/// Puts items back among the active ones, as `activate` does.
+#[inline(always)]
+pub fn activate_each(active: &mut [u64], primary: u32, items: &[u32])
+    requires some { All (λ i. 0 < i) items.now }
+    requires room { primary ≤ 64 * length active.old }
+    ensures long { length active.new ≡ length active.old }
+    ensures each { (k : ℕ) → in_row active.new k ≡ (in_row active.old k || (nat_lt k primary && members.has items.now (k + 1))) }
+{
+    for item in items {
+        activate(active, primary, *item);
     }
 }
 
@@ -65,7 +78,19 @@ fn place_among(covered: &[u32], active: &[u64], primary: u32, item: u32) -> usiz
     place_of(covered, item)
 }
 
-/// How many items were covered before one. A search asks for the item that was covered last.
+/// How many items were covered before one, if it was covered last.
+#[inline(always)]
+pub fn time_if_last(covered: &[u32], item: u32) -> Option<usize>
+    requires distinct { are_distinct covered.now ≡ true }
+    ensures { IfSome result (λ time. time ≡ position_or_len (λ x. x == item) covered.now) }
+{
+    match covered.split_last() {
+        Some((last, before)) if *last == item => Some(before.len()),
+        _ => None,
+    }
+}
+
+/// How many items were covered before one.
 #[inline(always)]
 pub fn time_of(covered: &[u32], active: &[u64], primary: u32, item: u32) -> usize
     requires distinct { are_distinct covered.now ≡ true }

@@ -72,21 +72,30 @@ fn from_bit(bit: u32) -> u64
     u64::MAX << bit
 }
 
-/// The word that a part shares with a row, without the numbers below `start`.
+/// The bits that stand, in the word at a place, for numbers from `start` on.
+#[inline(always)]
+fn mask_from(place: usize, start: u32) -> u64
+    ensures { result ≡ parts.mask_from start place }
+{
+    let first = (start / 64) as usize;
+    // All numbers of a later place are from `start` on, and none of an earlier one is.
+    if place > first {
+        u64::MAX
+    } else if place == first {
+        from_bit(start % 64)
+    } else {
+        0
+    }
+}
+
+/// The word that a part shares with a row, without the numbers below `start`. A mask takes them out, so that nothing is guessed by the
+/// processor but whether a number is left.
 #[inline(always)]
 fn shared_from(part: Part, row: &[u64], start: u32) -> u64
     requires { part.place < length row.now }
     ensures { result ≡ shared_from row.now start part }
 {
-    let word = part.word & row[part.place];
-    // All numbers of a place past that of `start` are from `start` on, and none of a place before it is.
-    if part.place > (start / 64) as usize {
-        word
-    } else if part.place == (start / 64) as usize {
-        word & from_bit(start % 64)
-    } else {
-        0
-    }
+    part.word & row[part.place] & mask_from(part.place, start)
 }
 
 /// The first number from `start` on that both sets have.
@@ -106,6 +115,12 @@ pub(crate) fn first_both(parts: &[Part], row: &[u64], start: u32) -> Option<u32>
     None
 }
 
+/// Whether parts are so few that they are gone through sooner than halved.
+#[inline(always)]
+pub(crate) fn are_few(parts: &[Part]) -> bool {
+    parts.len() < 16
+}
+
 /// The first number from `start` on that both sets have. Where there are many parts, those before its place are passed over by halving, as
 /// their places rise: where a level is wide they are thousands, and each step asks for the next option there.
 #[inline(always)]
@@ -115,8 +130,7 @@ pub(crate) fn next_both(parts: &[Part], row: &[u64], start: u32) -> Option<u32>
     ensures some { IfSome result (λ k. IsFirstFrom (in_both parts.now row.now) start k) }
     ensures none { result ≡ None → NoneFrom (in_both parts.now row.now) start }
 {
-    // Few are gone through sooner than halved.
-    if parts.len() < 16 {
+    if are_few(parts) {
         return first_both(parts, row, start);
     }
     let place = (start / 64) as usize;

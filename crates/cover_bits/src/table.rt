@@ -8,11 +8,11 @@ ghost use Rattle.cover_problem.specs.Covering.{active, choice, list_of};
 ghost use Rattle.cover_bits.specs.Parts.{words_for, in_row};
 ghost use Rattle.cover_bits.specs.Bits.{AreLeftBut, IsListOf};
 
-use crate::active::{activate, deactivate, place_of, time_of};
+use crate::active::{activate, activate_each, deactivate, place_of, time_if_last, time_of};
 use crate::lists::ItemList;
 use crate::making::{add_below, empty_row, fill, note_all};
 use crate::passes::{row, set, write_sets};
-use crate::sets::{Part, first_in, words_for};
+use crate::sets::{Part, are_few, first_in, words_for};
 use crate::walk::{take_next, whole};
 use cover_problem::{Problem, Table, push_within};
 use std::alloc::{AllocError, Global};
@@ -120,25 +120,28 @@ impl BitTable {
 
 // How the options of a list come.
 impl BitTable {
-    /// The first option past one of an item's list; past 0 the first of all.
+    /// The first option past one of an item's list; past 0 the first of all. A search asks for the item that was covered last, where a set
+    /// was written and has few parts; all else is a call at the end, for which no register is saved.
     #[inline(always)]
     fn option_past(&self, item: u32, option: u32) -> Option<u32>
         requires some { 0 < item }
         requires within { item ≤ length self.now.problem.names }
         ensures { result ≡ above option (list_of self.now.problem self.now.covered item) }
     {
-        let list = self.list(item);
-        if !list.gone.is_empty() {
-            return self.kept_past(item, option);
+        let Some(time) = time_if_last(&self.covered, item) else {
+            return self.sought_past(item, option);
+        };
+        let (parts, gone) = self.left_at(time);
+        if !gone.is_empty() || !are_few(parts) {
+            return self.sought_past(item, option);
         }
         // In the column an option has the number below its own, so what comes from its own number on stands after it.
-        after(list.first(option))
+        after(self.list_in(parts, gone, item).first(option))
     }
 
-    /// The same where options are gone. The list is looked up anew: handed on, it would stand in memory, and each call would make room.
-    #[cold]
+    /// The same for any item and set. The list is looked up anew: handed on, it would stand in memory, and each call would make room.
     #[inline(never)]
-    fn kept_past(&self, item: u32, option: u32) -> Option<u32>
+    fn sought_past(&self, item: u32, option: u32) -> Option<u32>
         requires some { 0 < item }
         requires within { item ≤ length self.now.problem.names }
         ensures { result ≡ above option (list_of self.now.problem self.now.covered item) }
@@ -262,9 +265,31 @@ impl BitTable {
         push_within(&mut self.covered, item);
     }
 
-    /// Writes the set of the options left now, if it isn't written.
+    /// Writes the set of the options left now, if it isn't written. In a search it is where an item is chosen.
     #[inline(always)]
     fn settle(&mut self)
+        ensures same_problem { self.new.problem ≡ self.old.problem }
+        ensures covered { self.new.covered ≡ self.old.covered }
+    {
+        let depth = self.covered.len();
+        if self.bases[depth] as usize != depth {
+            self.write_missing();
+        }
+    }
+
+    /// The same where it isn't written.
+    #[cold]
+    #[inline(never)]
+    fn write_missing(&mut self)
+        ensures same_problem { self.new.problem ≡ self.old.problem }
+        ensures covered { self.new.covered ≡ self.old.covered }
+    {
+        self.write_last();
+    }
+
+    /// Writes the set of the options left now.
+    #[inline(always)]
+    fn write_last(&mut self)
         ensures same_problem { self.new.problem ≡ self.old.problem }
         ensures covered { self.new.covered ≡ self.old.covered }
     {
@@ -389,6 +414,15 @@ impl Table for BitTable {
     }
 
     #[inline(always)]
+    fn uncover_last(&mut self, count: usize) {
+        // All at once: item by item the list of covered items would be read and written for each.
+        let depth = self.covered.len() - count;
+        let (_, back) = self.covered.split_at(depth);
+        activate_each(&mut self.active, self.primary, back);
+        self.covered.truncate(depth);
+    }
+
+    #[inline(always)]
     fn cover_each(&mut self, items: &[u32]) {
         for item in items {
             self.put(*item);
@@ -404,6 +438,6 @@ impl Table for BitTable {
         let (before, _) = option.split_at(place);
         self.cover_each(before);
         // Once for all of them, and for the item that was covered before them.
-        self.settle();
+        self.write_last();
     }
 }

@@ -1,15 +1,18 @@
 -- What each call is, once its place is found or it is refused.
-use Rattle.std.proofs.Common.{◌≡◌, ℕ, Bool, Option, None, Result, Ok, List, refl, sym, ap, ◌∙◌, inr, not}
+use Rattle.std.proofs.Common.{◌≡◌, ℕ, Bool, Option, Result, Ok, List, refl, sym, ap, ◌∙◌, inr, not}
 use Rattle.x_steps.specs.StateValue.{StateValue}
 use Rattle.lab_book.specs.declared.status.Status.{Status}
 use Rattle.lab_history.specs.declared.grant.Grant.{Grant}
+use Rattle.lab_history.specs.declared.ending.Ending.{Ending}
+use Rattle.lab_history.specs.declared.ending.Ending.TheVariants as ending
+use Rattle.lab_history.specs.Ending.{call_of_end}
 use Rattle.lab_history.specs.declared.fault.BookFault.{BookFault}
 use Rattle.lab_history.specs.declared.entry.Call.{Call}
 use Rattle.lab_history.specs.declared.entry.Call.TheVariants as call
-use Rattle.lab_book.specs.Tile.{is_waiting, is_held, freed_status, is_closed}
+use Rattle.lab_book.specs.Tile.{TileValue, is_waiting, is_held, ended_status, is_closed}
 use Rattle.lab_book.specs.Tiling.{tile_at}
-use Rattle.lab_book.specs.Book.{BookValue, Outcome, outcome, found, status_fault, lease_fault, stretch_fault, cut_fault, end_fault}
-use Rattle.lab_book.specs.Book.{made_at, lent, lent_any, first_waiting, posted, split, settled, freed, closed, asked_to_stop}
+use Rattle.lab_book.specs.Book.{BookValue, Outcome, outcome, found, found_by, status_fault, lease_fault, stretch_fault, cut_fault}
+use Rattle.lab_book.specs.Book.{made_at, lent, lent_any, first_waiting, posted, split, settled, with_status, ending_fault, asked_to_stop}
 use Rattle.lab_book.specs.Book.{retracted, retract_fault, put_back, mark_fault}
 use Rattle.lab_book.specs.Calls.{Judged}
 use Rattle.lab_book.proofs.BookLemmas.{judged_ok}
@@ -35,14 +38,13 @@ module _ (b : BookValue) (w : ℕ) where
   unfolding outcome
   any_is r e = ap (lent_any b w) (sym e)
 
-  pub abandon_is : (g : Grant) → outcome b w (call.Abandon g)
-      ≡ made_at b.tiles (settled b freed) (found b.tiles g.id (λ t. lease_fault g t None))
+  -- an end of a lease, by how it is ended
+  pub end_is : (e : Ending) (g : Grant) → outcome b w (call_of_end e g)
+      ≡ made_at b.tiles (settled b (λ (t : TileValue). record t { status = ended_status e t.stop })) (found_by b.tiles g (ending_fault e))
   unfolding outcome
-  abandon_is g = refl
-
-  pub park_is : (g : Grant) → outcome b w (call.Park g) ≡ made_at b.tiles (settled b freed) (found b.tiles g.id (λ t. lease_fault g t None))
-  unfolding outcome
-  park_is g = refl
+  end_is ending.Park g = refl
+  end_is ending.Abandon g = refl
+  end_is ending.Close g = refl
 
   pub stop_is : (id : ℕ) → outcome b w (call.RequestStop id)
       ≡ made_at b.tiles (settled b asked_to_stop) (found b.tiles id (λ t. status_fault (not (is_closed t.status)) t))
@@ -64,11 +66,6 @@ module _ (b : BookValue) (w : ℕ) where
   put_back_ok id mark s i m e = rw m (call_made b w (call.PutBack id s) (settled b (put_back s)) (Ok i) _ i (put_back_is id s) (inr (sym e))
       refl)
 
-  pub close_is : (g : Grant) → outcome b w (call.Close g)
-      ≡ made_at b.tiles (settled b closed) (found b.tiles g.id (λ t. lease_fault g t (end_fault t)))
-  unfolding outcome
-  close_is g = refl
-
   pub post_is : (g : Grant) (from to : StateValue) (same : Bool) → outcome b w (call.Post g from to same)
       ≡ made_at b.tiles (posted b from to) (found b.tiles g.id (λ t. lease_fault g t (stretch_fault b.problem from to same t)))
   unfolding outcome
@@ -79,8 +76,7 @@ module _ (b : BookValue) (w : ℕ) where
   unfolding outcome
   split_is g path same = refl
 
-  -- a lease that is ended at its tile's mark
-  pub given_up : (c : Call) (r q : Result ℕ BookFault) (i : ℕ) (s : Status) → outcome b w c ≡ made_at b.tiles (settled b freed) q
-      → Judged r q
-      → r ≡ Ok i → s ≡ freed_status (tile_at b.tiles i).stop → outcome b w c ≡ settled b (λ t. record t { status = s }) i
-  given_up c r q i s o j h e = call_made b w c (settled b freed) r q i o j h ∙ rw e refl
+  -- a lease whose end nothing stands against
+  pub ended : (e : Ending) (g : Grant) (r : Result ℕ BookFault) (i : ℕ) (s : Status) → Judged r (found_by b.tiles g (ending_fault e))
+      → r ≡ Ok i → s ≡ ended_status e (tile_at b.tiles i).stop → outcome b w (call_of_end e g) ≡ settled b (with_status s) i
+  ended e g r i s j h q = call_made b w (call_of_end e g) _ r _ i (end_is e g) j h ∙ rw q refl

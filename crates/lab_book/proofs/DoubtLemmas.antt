@@ -11,12 +11,15 @@ use Rattle.x_branches.specs.declared.branch.Branch.{Branch}
 use Rattle.x_branches.specs.RunOrder.{ComesBefore, comes_before}
 use Rattle.x_branches.specs.Stretch.{StretchValue, IsStretch}
 use Rattle.x_branches.proofs.CutLemmas.{test_is_order}
+use Rattle.lab_history.specs.declared.ending.Ending.{Ending}
+use Rattle.lab_history.specs.declared.ending.Ending.TheVariants as ending
+use Rattle.lab_history.specs.Ending.{is_at_mark}
 use Rattle.lab_history.specs.declared.fault.BookFault.{BookFault}
 use Rattle.lab_history.specs.declared.fault.BookFault.TheVariants.{OutOfMemory, StaleLease, BeyondEnd, NotAtEnd}
 use Rattle.lab_book.specs.States.{same_state}
 use Rattle.lab_book.specs.Tile.{TileValue, mark_of, tile_end}
 use Rattle.lab_book.specs.Tiling.{IsTiling, tile_at}
-use Rattle.lab_book.specs.Book.{stretch_fault, end_fault}
+use Rattle.lab_book.specs.Book.{stretch_fault, ending_fault}
 use Rattle.lab_book.specs.Book.{retract_fault, unless}
 use Rattle.lab_book.specs.Calls.{Doubted, Judged}
 use Rattle.lab_book.proofs.TileLemmas.{end_fits, tested}
@@ -25,12 +28,7 @@ use Rattle.lab_book.proofs.TilingLemmas.{tile_in}
 
 -- ---- what is found of a leased tile
 
--- and what stands against a tile that was found
-pub judged_doubt : (i : ℕ) (s : Result ℕ BookFault) (f : BookFault) (d : Option BookFault) → s ≡ unless i d → Doubted (Some f) d
-    → Judged (Err f) s
-judged_doubt i s f d e (inl a) = inl (let h : f ≡ OutOfMemory = cc in ap Err h)
-judged_doubt i s f d e (inr a) = inr (ap (unless i) a ∙ sym e)
-
+-- and that nothing stands against a tile that was found
 pub judged_fine : (i : ℕ) (s : Result ℕ BookFault) (d : Option BookFault) → s ≡ unless i d → Doubted None d → Judged (Ok i) s
 judged_fine i s d e (inl a) = absurd (cc)
 judged_fine i s d e (inr a) = inr (ap (unless i) a ∙ sym e)
@@ -83,18 +81,24 @@ module _ (p : ProblemValue) (from to : StateValue) (same : Bool) (t u : TileValu
         off true k = absurd (l (ordered.1 ((test_is_order p (tile_end t) to fits last_fits).0 k)))
         off false k = k
 
--- ---- what stands against a close
+-- ---- what stands against an end of a lease
+
+-- what doesn't leave a tile at its mark closes it
+closes : (e : Ending) → is_at_mark e ≡ false → e ≡ ending.Close
+closes ending.Park h = absurd (false≢true (sym h))
+closes ending.Abandon h = absurd (false≢true (sym h))
+closes ending.Close h = refl
 
 module _ (t u : TileValue) (tile : u ≡ t) (a e : StateValue) (test : Bool) (tells : IsTrue test ↔ (a ≡ e)) (mark : a ≡ mark_of u)
-    (end : e ≡ tile_end u) where
+    (end : e ≡ tile_end u) (how : Ending) (off : is_at_mark how ≡ false) where
   end_test : same_state (mark_of t) (tile_end t) ≡ test
   end_test = rw (← tile, ← mark, ← end) (tested test a e tells)
 
-  pub end_fine : test ≡ true → Doubted None (end_fault t)
-  end_fine h = rw (end_test, h) (inr refl)
+  pub end_fine : test ≡ true → None ≡ ending_fault how t
+  end_fine h = rw (closes how off, end_test, h) refl
 
-  pub end_doubt : test ≡ false → Doubted (Some NotAtEnd) (end_fault t)
-  end_doubt h = rw (end_test, h) (inr refl)
+  pub end_doubt : test ≡ false → Some NotAtEnd ≡ ending_fault how t
+  end_doubt h = rw (closes how off, end_test, h) refl
 
 -- ---- what stands against taking out
 

@@ -13,6 +13,5 @@ pub mod CountLemmas
 pub mod SumLemmas
 pub mod TotalsLemmas
 pub mod RiseLemmas
-pub mod ScribeLemmas
 pub mod PlaceLemmas
 pub mod BookExamples

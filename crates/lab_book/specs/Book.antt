@@ -1,10 +1,10 @@
 -- A book: the tiles of a problem's run, and the history of the calls (`BookValue`); what each call does to it.
 --
 -- A call looks for its tile (`tile_place`, `first_waiting`, `checked`, `found`); what stands against it is told by `status_fault`,
--- `lease_fault`, `stretch_fault`, `cut_fault`, `end_fault`, `retract_fault` and `mark_fault`; else it changes the tiles: `lent`, `posted`,
--- `split`, `retracted`, and `settled` for `freed`, `closed`, `put_back` and `asked_to_stop`. `outcome` is what each call answers and makes
--- of the tiles, and `book_step` the book after it. `new_book` is the first book, `replayed` a history's calls from a book on, `IsBook` what
--- is true of every book, and `KeepsBook` what one keeps.
+-- `lease_fault`, `stretch_fault`, `cut_fault`, `end_fault`, `ending_fault`, `retract_fault` and `mark_fault`; else it changes the tiles:
+-- `lent`, `posted`, `split`, `retracted`, and `settled` for `freed`, `closed`, `put_back` and `asked_to_stop`. `outcome` is what each call
+-- answers and makes of the tiles, and `book_step` the book after it. `new_book` is the first book, `replayed` a history's calls from a book
+-- on, `IsBook` what is true of every book, and `KeepsBook` what one keeps.
 --
 -- Example: worker 0 leases the one tile of the small problem's new book, from start to end, with its mark at X1, and then none waits. By
 -- that lease a post of the stretch from X1 to X3 is accepted; one that begins at X3 is refused, `StaleLease` with the mark X1, and to close
@@ -24,6 +24,8 @@ use Rattle.x_branches.specs.Stretch.{StretchValue}
 use Rattle.lab_book.specs.declared.status.Status.{Status}
 use Rattle.lab_book.specs.declared.status.Status.TheVariants as status
 use Rattle.lab_history.specs.declared.grant.Grant.{Grant}
+use Rattle.lab_history.specs.declared.ending.Ending.{Ending}
+use Rattle.lab_history.specs.declared.ending.Ending.TheVariants as ending
 use Rattle.lab_history.specs.declared.fault.BookFault.{BookFault}
 use Rattle.lab_history.specs.declared.fault.BookFault.TheVariants.{UnknownBranch, NotWaiting, StaleLease, ForeignProblem, NotAfterMark}
 use Rattle.lab_history.specs.declared.fault.BookFault.TheVariants.{BeyondEnd, NotAMark, NotAtEnd, NothingToRetract}
@@ -133,6 +135,11 @@ cut_fault p path same t =
 -- a tile to be closed has to be posted up to its end
 abbrev pub end_fault : TileValue → Option BookFault
 end_fault t = else_fault (same_state (mark_of t) (tile_end t)) NotAtEnd None
+
+-- what stands against an end of a tile's lease, by how it is ended: nothing, unless it is closed
+abbrev pub ending_fault : Ending → TileValue → Option BookFault
+ending_fault ending.Close t = end_fault t
+ending_fault e t = None
 
 -- a tile whose last stretch is taken out has to have one
 abbrev pub retract_fault : TileValue → Option BookFault
@@ -293,10 +300,6 @@ with_status s t = record t { status = s }
 -- and is asked to stop, or isn't
 abbrev pub settled_tile : Status → Bool → TileValue → TileValue
 settled_tile s stop t = record t { status = s; stop = stop }
-
--- the outcome of a call that gives the tile of a lease up
-abbrev pub given_up : BookValue → Grant → Outcome
-given_up b g = made_at b.tiles (settled b freed) (found_by b.tiles g (λ t. None))
 
 -- what each call does, the first refusal first
 unfoldable pub outcome : BookValue → ℕ → Call → Outcome

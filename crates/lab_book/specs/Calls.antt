@@ -141,39 +141,3 @@ LeadTo s first xs count = option_map (λ n. take n xs) count ≡ stretches_to (s
 pub record ReturnsTo (t : TileValue) (s : StateValue) (count : ℕ) : Type 0 where
   pub some : count ≤ length t.stretches
   pub kept : stretches_to s t.first t.stretches ≡ Some (take count t.stretches)
-
--- a scribe, of whom this tells what it notes, noted the entry of a call, with the index that it has in the history
-abbrev pub ScribeNotes : {S : Type 0} → (S → ℕ → Entry → S → Type 0) → S → S → BookValue → ℕ → Call → Type 0
-ScribeNotes notes old new b w c = notes old (length b.history) (next_entry b w c) new
-
--- where a call is made, a scribe notes it
-abbrev pub NotesMade : {S X F : Type 0} → Result X F → (S → ℕ → Entry → S → Type 0) → S → S → BookValue → ℕ → Call → Type 0
-NotesMade result notes old new b w c = OnOk result (ScribeNotes notes old new b w c)
-
--- where a call was refused, it noted that, and nothing where memory ran out
-abbrev pub ScribeNotesFault : {S : Type 0}
-    → (S → ℕ → Entry → S → Type 0) → S → S → BookValue → ℕ → Call → BookFault → Type 0
-ScribeNotesFault notes old new b w c f =
-    (f ≡ OutOfMemory → new ≡ old) × ((f ≡ OutOfMemory → ⊥) → ScribeNotes notes old new b w c)
-
--- the same for a call by this lease
-abbrev pub ScribeNotesBy : {S : Type 0} → (S → ℕ → Entry → S → Type 0) → S → S → BookValue → (Grant → Call) → Grant → Type 0
-ScribeNotesBy notes old new b c g = ScribeNotes notes old new b g.worker (c g)
-
--- where such a call is made, a scribe notes it
-abbrev pub NotesMadeBy : {S X F : Type 0}
-    → Result X F → (S → ℕ → Entry → S → Type 0) → S → S → BookValue → (Grant → Call) → Grant → Type 0
-NotesMadeBy result notes old new b c g = OnOk result (ScribeNotesBy notes old new b c g)
-
--- and where it was refused
-abbrev pub ScribeNotesByFault : {S : Type 0}
-    → (S → ℕ → Entry → S → Type 0) → S → S → BookValue → (Grant → Call) → Grant → BookFault → Type 0
-ScribeNotesByFault notes old new b c g f = ScribeNotesFault notes old new b g.worker (c g) f
-
--- the entry of a call that is done
-abbrev pub done_entry : ℕ → Call → Entry
-done_entry w c = record { worker = w; call = c; reply = reply.Done }
-
--- a scribe, of whom this tells for which entries it has room, has room for the one by which a call ends this lease
-abbrev pub ReadyToEnd : {S : Type 0} → (S → Entry → Type 0) → S → (Grant → Call) → Grant → Type 0
-ReadyToEnd ready s c g = ready s (done_entry g.worker (c g))

@@ -1,7 +1,7 @@
 -- A tile: a branch of the run, how it stands, and what was posted of it. First how one stands (`is_waiting`, `is_held`, `is_leased`,
--- `is_closed`, `is_free`, `is_lease`, and what becomes of that: `freed_status`, `asked_status`), then `TileValue` and its states: its marks
--- are its first mark and the ends of its stretches, to which these lead (`led_to`); the last of them is its mark, `mark_of`; `tile_end`
--- ends it. Last what is true of it: `KeepsTile`, `Join`, `EqualMarksMeet`, `Stands`, `IsTile`.
+-- `is_closed`, `is_free`, `is_lease`, and what becomes of that: `freed_status`, `ended_status`, `asked_status`), then `TileValue` and its
+-- states: its marks are its first mark and the ends of its stretches, to which these lead (`led_to`); the last of them is its mark,
+-- `mark_of`; `tile_end` ends it. Last what is true of it: `KeepsTile`, `Join`, `EqualMarksMeet`, `Stands`, `IsTile`.
 --
 -- Example: a tile of the small problem's whole run has the first mark X1; once the two steps to X3 are posted its mark is X3, and its end
 -- is Done. One that worker 1 leased by the entry 7 isn't leased by the entry 3. proofs/BookExamples.antt computes it.
@@ -15,6 +15,8 @@ use Rattle.x_branches.specs.Runner.{IsBranch}
 use Rattle.lab_book.specs.declared.status.Status.{Status}
 use Rattle.lab_book.specs.declared.status.Status.TheVariants.{Waiting, Held, Leased, Closed}
 use Rattle.lab_history.specs.declared.grant.Grant.{Grant}
+use Rattle.lab_history.specs.declared.ending.Ending.{Ending}
+use Rattle.lab_history.specs.declared.ending.Ending.TheVariants as ending
 
 -- whether a tile that stands so waits: it can be leased, and nobody has it
 abbrev pub is_waiting : Status → Bool
@@ -50,6 +52,11 @@ is_lease _ g = false
 -- how a tile stands that is given up
 abbrev pub freed_status : Bool → Status
 freed_status stop = if stop then Held else Waiting
+
+-- how a tile stands whose lease was ended so: it is closed, or given up
+abbrev pub ended_status : Ending → Bool → Status
+ended_status ending.Close stop = Closed
+ended_status e stop = freed_status stop
 
 -- and how one stands once it is asked to stop: where it waits it is held
 abbrev pub asked_status : Status → Status

@@ -8,7 +8,7 @@ ghost use Rattle.x_branches.specs.Refusals.{CanStart, StartRefused};
 ghost use Rattle.x_branches.specs.Branch.{whole_run};
 ghost use Rattle.lab_book.specs.Book.{waiting_in, leased_in, IsTiled, new_book, replayed, outcome, refused, tile_place, first_book};
 ghost use Rattle.lab_book.specs.Posted.{posted_count};
-ghost use Rattle.lab_book.specs.Calls.{Refuses, RefusedIf, OutOfMemoryOr, ScribeNotesFault};
+ghost use Rattle.lab_book.specs.Calls.{Refuses, RefusedIf, OutOfMemoryOr};
 
 mod ends;
 mod leases;
@@ -21,7 +21,7 @@ use crate::status::Status;
 use crate::tile::Tile;
 use crate::tiles::Tiles;
 use cover_problem::{PlainTable, Problem, Table};
-use lab_history::{BookFault, Call, Entries, Entry, History, Reply, Scribe};
+use lab_history::{BookFault, Call, Entries, Entry, History, Reply};
 use std::alloc::{AllocError, Global};
 use std::marker::Model;
 use x_branches::{Branch, Cut, Runner, RunnerFault, StartFault};
@@ -261,17 +261,10 @@ impl<'p> Book<'p> {
         let _calls = self.history.len();
     }
 
-    /// Notes a refusal in the history and at a scribe, unless memory ran out, or runs out here.
-    fn refuse<S: Scribe>(
-        &mut self,
-        scribe: &mut S,
-        w: u8,
-        call: Call,
-        fault: BookFault,
-    ) -> BookFault
+    /// Notes a refusal in the history, unless memory ran out, or runs out here.
+    fn refuse(&mut self, w: u8, call: Call, fault: BookFault) -> BookFault
         requires { OutOfMemoryOr fault (outcome self.old w call ≡ refused self.old.tiles fault) }
         ensures refused { Refuses self.old self.new w call result }
-        ensures noted { ScribeNotesFault S.notes scribe.old scribe.new self.old w call result }
     {
         let fault = match fault {
             // No entry tells of it: a replay knows nothing of memory.
@@ -287,19 +280,17 @@ impl<'p> Book<'p> {
             call,
             reply: Reply::Refused(copy),
         };
-        // With this room nothing after it can fail: the refusal is noted on both sides, or on neither.
-        let Ok(()) = self.history.keep(scribe, 1, &entry) else {
+        // With this room nothing after it can fail.
+        let Ok(()) = self.history.keep(1) else {
             return BookFault::OutOfMemory;
         };
         self.history.add(entry);
-        scribe.note();
         fault
     }
 
     /// Notes a refusal as `refuse` does, and hands back what the call was given.
-    fn hand_back<S: Scribe, G>(
+    fn hand_back<G>(
         &mut self,
-        scribe: &mut S,
         w: u8,
         call: Call,
         fault: BookFault,
@@ -307,11 +298,9 @@ impl<'p> Book<'p> {
     ) -> Refused<BookFault, G>
         requires { OutOfMemoryOr fault (outcome self.old w call ≡ refused self.old.tiles fault) }
         ensures refused { Refuses self.old self.new w call result.fault }
-        ensures noted { ScribeNotesFault S.notes scribe.old scribe.new self.old w
-            call result.fault }
         ensures given_back { result.given ≡ given }
     {
-        let fault = self.refuse(scribe, w, call, fault);
+        let fault = self.refuse(w, call, fault);
         Refused { fault, given }
     }
 }

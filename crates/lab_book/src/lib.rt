@@ -10,9 +10,7 @@ mod tiles;
 mod totals;
 
 pub use book::Book;
-pub use lab_history::{
-    BookFault, Call, CallKind, Entries, Entry, Grant, Path, Reply, Scribe, Unnoted,
-};
+pub use lab_history::{BookFault, Call, CallKind, Ending, Entries, Entry, Grant, Path, Reply};
 pub use lease::{Lease, Leased, Posted};
 pub use status::Status;
 pub use tile::Tile;

@@ -1,8 +1,8 @@
 //! How a tile stands.
-ghost use Rattle.std.specs.Prelude.{◌≡◌};
-ghost use Rattle.lab_book.specs.Tile.{is_waiting, is_held, is_leased, is_closed, is_free, is_lease, freed_status, asked_status};
+ghost use Rattle.std.specs.Prelude.{◌≡◌, false};
+ghost use Rattle.lab_book.specs.Tile.{is_waiting, is_held, is_leased, is_closed, is_free, is_lease, ended_status, asked_status};
 
-use lab_history::Grant;
+use lab_history::{Ending, Grant};
 
 /// How a tile stands: it waits for a worker, it is held back, a worker has leased it by the entry of the history that `index`
 /// names, or it is done.
@@ -77,11 +77,16 @@ impl Status {
         }
     }
 
-    /// How a tile stands that is given up: it waits, or it is held where a stop was asked for.
-    pub(crate) fn freed(stop: bool) -> Status
-        ensures { result ≡ freed_status stop }
+    /// How a tile stands whose lease was ended so: it is closed, or it waits, or it is held where a stop was asked for.
+    pub(crate) fn ended(ending: Ending, stop: bool) -> Status
+        ensures ended { result ≡ ended_status ending stop }
+        ensures free { is_leased result ≡ false }
     {
-        if stop { Status::Held } else { Status::Waiting }
+        match ending {
+            Ending::Close => Status::Closed,
+            _ if stop => Status::Held,
+            _ => Status::Waiting,
+        }
     }
 
     /// How a tile stands once it is asked to stop: one that waits is held.

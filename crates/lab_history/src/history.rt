@@ -4,7 +4,6 @@ ghost use Rattle.lab_history.specs.EntryCode.{entry_of, all_entries, AreEntryCod
 
 use crate::entries::Entries;
 use crate::entry::Entry;
-use crate::scribe::Scribe;
 use packed_rows::{Row, Rows};
 use std::alloc::{AllocError, Global};
 use std::marker::Model;
@@ -91,25 +90,14 @@ impl History {
         (self.rows.len() + self.last.len()) as u64
     }
 
-    /// Keeps room for so many entries more, of which the first is this: a scribe takes it in hand. Where memory runs out, nothing
-    /// changes.
-    pub fn keep<S: Scribe>(
-        &mut self,
-        scribe: &mut S,
-        count: usize,
-        entry: &Entry,
-    ) -> Result<(), AllocError>
+    /// Keeps room for so many entries more. Where memory runs out, nothing changes.
+    pub fn keep(&mut self, count: usize) -> Result<(), AllocError>
         requires { count ≤ 2 }
         ensures kept { OnOk result (self.new ≡ record self.old { kept = self.old.kept + count }) }
-        ensures in_hand { OnOk result
-            (S.keeps scribe.old (length self.old.entries) entry.now scribe.new) }
         ensures unchanged { OnErr result (self.new ≡ self.old) }
-        ensures not_in_hand { OnErr result (scribe.new ≡ scribe.old) }
     {
-        // The list first: a scribe that has an entry in hand would have to let it go again.
+        // Room beside what was kept before: entries may come between.
         self.last.reserve(self.kept + count)?;
-        // Where this fails the list has room that nobody counts on, which is no change.
-        scribe.keep(self.len(), entry)?;
         self.kept += count;
         Ok(())
     }

@@ -1,5 +1,5 @@
-//! The history of a book of a search: the entries of calls with their answers, kept as rows of numbers, and who keeps a record beside
-//! it. No tile and no search is known here.
+//! The history of a book of a search: the entries of calls with their answers, kept as rows of numbers. No tile and
+//! no search is known here.
 #![tactic(auto)]
 
 mod code;
@@ -11,7 +11,6 @@ mod grant;
 mod history;
 mod kind;
 mod path;
-mod scribe;
 
 pub use ending::Ending;
 pub use entries::Entries;
@@ -21,4 +20,3 @@ pub use grant::Grant;
 pub use history::History;
 pub use kind::CallKind;
 pub use path::Path;
-pub use scribe::{Scribe, Unnoted};

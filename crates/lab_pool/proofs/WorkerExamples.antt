@@ -1,7 +1,8 @@
 -- The examples of specs/Worker.antt.
-use Rattle.std.proofs.Common.{◌≡◌, ℕ, true, false, Some, Option, List, [], ◌∷◌, map, Result, Ok, inl, inr, ap, refl, sym, ◌∙◌, arith}
+use Rattle.std.proofs.Common.{◌≡◌, ℕ, Some, Option, List, [], ◌∷◌, map, Result, Ok, inl, inr, ap, refl, sym, ◌∙◌, arith}
 use Rattle.lab_history.specs.declared.grant.Grant.{Grant}
 use Rattle.lab_history.specs.declared.entry.Call.TheVariants as call
+use Rattle.lab_history.specs.declared.ending.Ending.TheVariants as ending
 use Rattle.lab_history.specs.declared.entry.Reply.TheVariants as reply
 use Rattle.lab_history.specs.declared.fault.BookFault.TheVariants as fault
 use Rattle.lab_history.specs.declared.kind.CallKind.{CallKind}
@@ -11,7 +12,7 @@ use Rattle.lab_book.specs.declared.lease.Leased.{Leased}
 use Rattle.lab_desk.specs.declared.seat.Noted.{Noted}
 use Rattle.lab_desk.specs.Record.{SeatValue, noted, call_entry}
 use Rattle.lab_pool.specs.declared.search.Next.TheVariants as next
-use Rattle.lab_pool.specs.Worker.{ending_call, next_after, EndsTile, EndsIn, Abandons, NotesEnding, HasLeft, leaves_mark, IfLeased, IsLeasedTo, KeepsSeat}
+use Rattle.lab_pool.specs.Worker.{ending_for, next_after, EndsTile, EndsIn, Abandons, HasLeft, IfLeased, IsLeasedTo, KeepsSeat}
 
 -- worker 0's lease of a tile, by the entry 3
 abbrev lease : Grant
@@ -21,7 +22,7 @@ lease = record { id = 1; worker = 0; index = 3 }
 abbrev closed : SeatValue
 closed = record { number = 0; notes = noted 4 (call_entry 0 (call.Close lease) reply.Done) ∷ []; kept = 0 }
 
-by_its_close : ending_call next.Done lease ≡ call.Close lease
+by_its_close : ending_for next.Done ≡ ending.Close
 by_its_close = refl
 
 is_ended : EndsTile next.Done closed lease
@@ -66,18 +67,8 @@ not_left (inr ([], n)) = let e : kind.Abandon ∷ [] ≡ kind.Park ∷ [] = ap a
 not_left (inr (x ∷ [], n)) = let e = n.1 in absurd (cc)
 not_left (inr (x ∷ y ∷ l, n)) = let e = n.1 in absurd (cc)
 
--- a call that is noted isn't the end that was wanted where the worker does something else next
-abbrev well : Result ℕ ℕ
-well = Ok 0
-
-noted_otherwise : ¬ NotesEnding fresh closed next.Stop lease well
-noted_otherwise n = let e : kind.Close ∷ [] ≡ kind.Park ∷ [] = ap asked n.1 in absurd (cc)
-
-done_goes_past : leaves_mark next.Done ≡ false
-done_goes_past = refl
-
-stopped_stays : leaves_mark next.Stop ≡ true
-stopped_stays = refl
+by_its_park : ending_for next.Stop ≡ ending.Park
+by_its_park = refl
 
 -- of what was leased not everything is true
 abbrev leased_five : Result (Option ℕ) ℕ

@@ -12,7 +12,7 @@ use Rattle.lab_history.specs.declared.fault.BookFault.{BookFault}
 use Rattle.lab_history.specs.declared.fault.BookFault.TheVariants as fault
 use Rattle.lab_desk.specs.Record.{SeatValue, Notes, AtSomeIndex, HoldsAnyLease, is_one, held_in, holds}
 use Rattle.lab_pool.specs.declared.search.Next.{Next}
-use Rattle.lab_pool.specs.Worker.{ending_call, next_after, EndsIn, Abandons, EndsTile, IfLeased, IsLeasedTo}
+use Rattle.lab_pool.specs.Worker.{next_after, EndsIn, Abandons, EndsTile, IfLeased, IsLeasedTo}
 
 module _ (old new : SeatValue) (number : new.number ≡ old.number) where
   -- a call that is noted is the last note

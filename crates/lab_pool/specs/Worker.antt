@@ -1,30 +1,33 @@
--- How a worker ends its tile: by which call (`ending_call`), what it does next where the book refuses one (`next_after`), and what the last
+-- How a worker ends its tile (`ending_for`), what it does next where the book refuses one (`next_after`), and what the last
 -- note of its seat then is (`EndsIn`, `Abandons`, `EndsTile`). What a call leased to it is `IfLeased` and `IsLeasedTo`; what its seat keeps at
 -- other calls, `KeepsSeat`; and where its runner begins, `runner_for`.
 --
 -- Example: worker 0 closes the tile that it is done with, and its seat's last note is that close. It doesn't park it, and where a call was
 -- refused its search ends. proofs/WorkerExamples.antt computes it.
-use Rattle.std.specs.Prelude.{◌≡◌, ◌⊎◌, Bool, true, false, List, Option, Result, IfOk, IfSome}
+use Rattle.std.specs.Prelude.{◌≡◌, ◌⊎◌, true, List, Option, Result, IfOk, IfSome}
 use Rattle.cover_problem.specs.Problem.{ProblemValue}
 use Rattle.x_branches.specs.Runner.{RunnerValue, runner_at}
 use Rattle.lab_history.specs.declared.grant.Grant.{Grant}
 use Rattle.lab_book.specs.declared.lease.Leased.{Leased}
 use Rattle.lab_history.specs.declared.entry.Call.{Call}
 use Rattle.lab_history.specs.declared.entry.Call.TheVariants as call
+use Rattle.lab_history.specs.declared.ending.Ending.{Ending}
+use Rattle.lab_history.specs.declared.ending.Ending.TheVariants as ending
+use Rattle.lab_history.specs.Ending.{call_of_end}
 use Rattle.lab_history.specs.declared.entry.Reply.{Reply}
 use Rattle.lab_history.specs.declared.entry.Reply.TheVariants as reply
 use Rattle.lab_history.specs.declared.fault.BookFault.{BookFault}
 use Rattle.lab_history.specs.declared.fault.BookFault.TheVariants as fault
 use Rattle.lab_desk.specs.declared.seat.Noted.{Noted}
-use Rattle.lab_desk.specs.Record.{SeatValue, Notes, NotesDone, AtSomeIndex, held_in, holds}
+use Rattle.lab_desk.specs.Record.{SeatValue, Notes, AtSomeIndex, held_in, holds}
 use Rattle.lab_pool.specs.declared.search.Next.{Next}
 use Rattle.lab_pool.specs.declared.search.Next.TheVariants as next
 
--- the call by which a worker ends its tile: it closes one that is done, parks one at which it was asked to stop, and abandons any other
-abbrev pub ending_call : Next → Grant → Call
-ending_call next.Done g = call.Close g
-ending_call next.Stop g = call.Park g
-ending_call _ g = call.Abandon g
+-- how a worker ends its tile: it closes one that is done, parks one at which it was asked to stop, and abandons any other
+abbrev pub ending_for : Next → Ending
+ending_for next.Done = ending.Close
+ending_for next.Stop = ending.Park
+ending_for _ = ending.Abandon
 
 -- what it does next where the book refused a call
 abbrev pub next_after : BookFault → Next
@@ -39,10 +42,6 @@ EndsIn s c r = (before : List Noted) × AtSomeIndex (λ i. Notes i before s.note
 abbrev pub Abandons : SeatValue → Grant → Type 0
 Abandons s g = EndsIn s (call.Abandon g) reply.Done
 
--- a call that ended a lease, by what the worker does next, is noted as done
-abbrev pub NotesEnding : {X E : Type 0} → SeatValue → SeatValue → Next → Grant → Result X E → Type 0
-NotesEnding old new n g result = NotesDone old new (ending_call n g) result
-
 -- the last note of a seat is that this lease's tile was closed, or parked
 abbrev pub HasLeft : SeatValue → Grant → Type 0
 HasLeft s g = EndsIn s (call.Close g) reply.Done ⊎ EndsIn s (call.Park g) reply.Done
@@ -50,12 +49,7 @@ HasLeft s g = EndsIn s (call.Close g) reply.Done ⊎ EndsIn s (call.Park g) repl
 -- how a lease was ended, by what the worker does next: its tile was closed where it is done, parked where the worker was asked to stop, and
 -- else abandoned
 abbrev pub EndsTile : Next → SeatValue → Grant → Type 0
-EndsTile n s g = EndsIn s (ending_call n g) reply.Done
-
--- whether it leaves the tile at its mark: any but one that is done
-abbrev pub leaves_mark : Next → Bool
-leaves_mark next.Done = false
-leaves_mark n = true
+EndsTile n s g = EndsIn s (call_of_end (ending_for n) g) reply.Done
 
 -- this is true of what a call leased, if it leased anything
 abbrev pub IfLeased : {X E : Type 0} → Result (Option X) E → (X → Type 0) → Type 0

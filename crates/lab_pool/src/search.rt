@@ -6,12 +6,12 @@ ghost use Rattle.x_branches.specs.Runner.{runner_at};
 ghost use Rattle.x_branches.specs.Refusals.{CanShorten};
 ghost use Rattle.lab_book.specs.Calls.{CanBeSearched};
 ghost use Rattle.lab_desk.specs.Record.{holds};
-ghost use Rattle.lab_pool.specs.Worker.{next_after, runner_for, EndsTile, KeepsSeat};
+ghost use Rattle.lab_pool.specs.Worker.{ending_for, next_after, runner_for, EndsTile, KeepsSeat};
 
 use crate::gate::Gate;
 use crate::station::Station;
 use cover_problem::{Problem, Table};
-use lab_book::{BookFault, Lease, Leased};
+use lab_book::{BookFault, Ending, Lease, Leased};
 use lab_desk::Desking;
 use std::alloc::{AllocError, Global};
 use std::sync::Wait;
@@ -92,6 +92,18 @@ fn cut_twice<'p, T: Table>(runner: &Runner<'p, T>) -> Result<Option<(Cut<'p>, Cu
     match cut.copy() {
         Ok(copy) => Ok(Some((cut, copy))),
         Err(_) => Err(Next::OutOfMemory),
+    }
+}
+
+/// How a worker ends its tile: it closes one that is done, parks one at which it was asked to stop, and abandons any other.
+fn ending_for(next: Next) -> Ending
+    ensures { result ≡ ending_for next }
+{
+    match next {
+        Next::Done => Ending::Close,
+        Next::Stop => Ending::Park,
+        // What isn't posted is lost, and found again by who leases the tile next.
+        _ => Ending::Abandon,
     }
 }
 
@@ -250,7 +262,7 @@ impl<'p, T: Table> Search<'p, T> {
             runner,
             waiting: _,
         } = self;
-        let Err(refused) = station.end(lease, next) else {
+        let Err(refused) = station.end(lease, ending_for(next)) else {
             return (runner, next);
         };
         // Refused, it has no tile that it could go on in.

@@ -1,12 +1,12 @@
 //! Where a worker calls: the desk and the gate that all share, and its own seat and deque.
 ghost use Rattle.std.specs.Prelude.{◌≡◌, true, IfErr, OnErr, IsOk};
+ghost use Rattle.lab_history.specs.Ending.{call_of_end, is_at_mark};
 ghost use Rattle.lab_book.specs.Calls.{CanBeSearched};
-ghost use Rattle.lab_desk.specs.Record.{held_in, holds};
-ghost use Rattle.lab_pool.specs.Worker.{Abandons, IfLeased, IsLeasedTo, KeepsSeat, NotesEnding, leaves_mark};
+ghost use Rattle.lab_desk.specs.Record.{NotesDone, held_in, holds};
+ghost use Rattle.lab_pool.specs.Worker.{Abandons, IfLeased, IsLeasedTo, KeepsSeat};
 
 use crate::gate::{Gate, GateCall};
-use crate::search::Next;
-use lab_book::{BookFault, Lease, Leased, Posted};
+use lab_book::{BookFault, Ending, Lease, Leased, Posted};
 use lab_desk::{Desk, Desking, Seat};
 use lab_tickets::TicketSeat;
 use std::alloc::{AllocError, Global};
@@ -184,33 +184,21 @@ impl<'p, L: Desking, R: Wait, G: Gate> Station<'_, 'p, L, R, G> {
         )
     }
 
-    /// Closes a tile that is done, parks one at which the worker was asked to stop, and abandons any other.
-    fn close_or_leave(&mut self, lease: Lease, next: Next) -> Result<(), Refused<BookFault, Lease>>
+    /// Ends a lease.
+    pub fn end(&mut self, lease: Lease, ending: Ending) -> Result<(), Refused<BookFault, Lease>>
         requires { lease.worker ≡ self.old.seat.now.number }
-        ensures noted { NotesEnding self.old.seat.now self.new.seat.now next lease result }
+        ensures noted { NotesDone self.old.seat.now self.new.seat.now (call_of_end ending lease) result }
         ensures given_back { IfErr result (λ r. r.given ≡ lease) }
-        ensures current { leaves_mark next ≡ true → holds self.old.seat.now.notes lease ≡ true → IsOk result }
+        ensures current { is_at_mark ending ≡ true → holds self.old.seat.now.notes lease ≡ true → IsOk result }
         ensures held { OnErr result (held_in self.new.seat.now.notes ≡ held_in self.old.seat.now.notes) }
         ensures number { self.new.seat.now.number ≡ self.old.seat.now.number }
     {
-        match next {
-            Next::Done => self.crew.desk.close(self.crew.rt, self.seat, lease),
-            Next::Stop => self.crew.desk.park(self.crew.rt, self.seat, lease),
-            // What isn't posted is lost, and found again by who leases the tile next.
-            _ => self.crew.desk.abandon(self.crew.rt, self.seat, lease),
-        }
-    }
-
-    /// Ends a lease by what the worker does next.
-    pub fn end(&mut self, lease: Lease, next: Next) -> Result<(), Refused<BookFault, Lease>>
-        requires { lease.worker ≡ self.old.seat.now.number }
-        ensures noted { NotesEnding self.old.seat.now self.new.seat.now next lease result }
-        ensures given_back { IfErr result (λ r. r.given ≡ lease) }
-        ensures current { leaves_mark next ≡ true → holds self.old.seat.now.notes lease ≡ true → IsOk result }
-        ensures held { OnErr result (held_in self.new.seat.now.notes ≡ held_in self.old.seat.now.notes) }
-        ensures number { self.new.seat.now.number ≡ self.old.seat.now.number }
-    {
-        gated!(self, GateCall::End, self.close_or_leave(lease, next))
+        let desk = self.crew.desk;
+        gated!(
+            self,
+            GateCall::End,
+            desk.end(self.crew.rt, self.seat, lease, ending)
+        )
     }
 
     /// Gives a tile up. A lease that the seat holds is given up, whoever else called, and never let go.

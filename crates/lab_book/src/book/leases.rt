@@ -5,13 +5,13 @@ ghost use Rattle.x_steps.specs.StateView.{state_value};
 ghost use Rattle.lab_book.specs.Tile.{is_leased, mark_of};
 ghost use Rattle.lab_book.specs.Tiling.{tile_at};
 ghost use Rattle.lab_book.specs.Book.{outcome, lent, cut_path};
-ghost use Rattle.lab_book.specs.Calls.{Made, Refuses, any_reply, CanBeSearched, Leases, NotesMade, ScribeNotesFault};
+ghost use Rattle.lab_book.specs.Calls.{Made, Refuses, any_reply, CanBeSearched, Leases};
 
 use crate::book::Book;
 use crate::lease::{Lease, Leased};
 use crate::status::Status;
 use crate::tile::Tile;
-use lab_history::{BookFault, Call, Entry, Grant, Path, Reply, Scribe, Unnoted};
+use lab_history::{BookFault, Call, Entry, Grant, Path, Reply};
 use std::alloc::{AllocError, Global};
 use x_branches::{Branch, Cut};
 use x_steps::Mark;
@@ -66,13 +66,7 @@ impl<'p> Book<'p> {
     }
 
     /// Leases the tile at a place, and keeps room for the entry that gives it up.
-    fn lend<S: Scribe>(
-        &mut self,
-        scribe: &mut S,
-        w: u8,
-        i: usize,
-        call: Call,
-    ) -> Result<Leased<'p>, BookFault>
+    fn lend(&mut self, w: u8, i: usize, call: Call) -> Result<Leased<'p>, BookFault>
         requires within { i < length self.old.tiles }
         requires free { is_leased (tile_at self.old.tiles i).status ≡ false }
         requires outcome { outcome self.old w call ≡ lent self.old w i }
@@ -80,8 +74,6 @@ impl<'p> Book<'p> {
         ensures can_start { IfOk result (CanBeSearched self.old.problem) }
         ensures worker { IfOk result (λ r. r.lease.worker ≡ w) }
         ensures refused { IfErr result (λ f. (f ≡ BookFault.OutOfMemory) × (self.new ≡ self.old)) }
-        ensures noted { NotesMade result S.notes scribe.old scribe.new self.old w call }
-        ensures not_noted { OnErr result (scribe.new ≡ scribe.old) }
     {
         // All memory is taken before the tile changes: a lease is given whole, or nothing has happened.
         let Ok((branch, mark)) = copied(self.tiles.tile(i)) else {
@@ -96,7 +88,7 @@ impl<'p> Book<'p> {
             reply,
         };
         // Room for this entry and for the one that ends the lease: a tile can always be given up.
-        let Ok(()) = self.history.keep(scribe, 2, &entry) else {
+        let Ok(()) = self.history.keep(2) else {
             return Err(BookFault::OutOfMemory);
         };
         let index = self.history.len();
@@ -111,7 +103,6 @@ impl<'p> Book<'p> {
             .settle(i, Status::Leased { worker: w, index }, false);
         let waiting = self.tiles.waiting();
         self.history.add(entry);
-        scribe.note();
         Ok(Leased {
             lease: Lease::of(lease),
             branch,
@@ -128,30 +119,11 @@ impl<'p> Book<'p> {
         ensures worker { IfOk result (λ r. r.lease.worker ≡ w) }
         ensures refused { IfErr result (λ f. Refuses self.old self.new w (Call.Lease id) f) }
     {
-        self.lease_by(&mut Unnoted, w, id)
-    }
-
-    /// The same as `lease`, with a scribe.
-    pub fn lease_by<S: Scribe>(
-        &mut self,
-        scribe: &mut S,
-        w: u8,
-        id: u64,
-    ) -> Result<Leased<'p>, BookFault>
-        requires { IsWorker w }
-        ensures made { IfOk result (Leases self.old self.new w (Call.Lease id)) }
-        ensures can_start { IfOk result (CanBeSearched self.old.problem) }
-        ensures worker { IfOk result (λ r. r.lease.worker ≡ w) }
-        ensures refused { IfErr result (λ f. Refuses self.old self.new w (Call.Lease id) f) }
-        ensures noted { NotesMade result S.notes scribe.old scribe.new self.old w (Call.Lease id) }
-        ensures refusal_noted { IfErr result (λ f.
-            ScribeNotesFault S.notes scribe.old scribe.new self.old w (Call.Lease id) f) }
-    {
         let i = match self.tiles.waiting_place(id) {
             Ok(i) => i,
-            Err(fault) => return Err(self.refuse(scribe, w, Call::Lease(id), fault)),
+            Err(fault) => return Err(self.refuse(w, Call::Lease(id), fault)),
         };
-        self.lend(scribe, w, i, Call::Lease(id))
+        self.lend(w, i, Call::Lease(id))
     }
 
     /// Leases the first tile that waits, or answers None where none does.
@@ -162,23 +134,6 @@ impl<'p> Book<'p> {
         ensures worker { IfOk result (λ r. IfSome r (λ l. l.lease.worker ≡ w)) }
         ensures unchanged { OnErr result (self.new ≡ self.old) }
     {
-        self.lease_any_by(&mut Unnoted, w)
-    }
-
-    /// The same as `lease_any`, with a scribe.
-    pub fn lease_any_by<S: Scribe>(
-        &mut self,
-        scribe: &mut S,
-        w: u8,
-    ) -> Result<Option<Leased<'p>>, AllocError>
-        requires { IsWorker w }
-        ensures made { IfOk result (λ r. Made self.old self.new w Call.LeaseAny (any_reply r)) }
-        ensures can_start { IfOk result (λ r. IfSome r (CanBeSearched self.old.problem)) }
-        ensures worker { IfOk result (λ r. IfSome r (λ l. l.lease.worker ≡ w)) }
-        ensures unchanged { OnErr result (self.new ≡ self.old) }
-        ensures noted { NotesMade result S.notes scribe.old scribe.new self.old w Call.LeaseAny }
-        ensures not_noted { OnErr result (scribe.new ≡ scribe.old) }
-    {
         // That none waits is an answer and gets its entry; it is no refusal.
         let Some(i) = self.tiles.next_waiting() else {
             let entry = Entry {
@@ -186,12 +141,11 @@ impl<'p> Book<'p> {
                 call: Call::LeaseAny,
                 reply: Reply::NoneWaits,
             };
-            self.history.keep(scribe, 1, &entry)?;
+            self.history.keep(1)?;
             self.history.add(entry);
-            scribe.note();
             return Ok(None);
         };
-        match self.lend(scribe, w, i, Call::LeaseAny) {
+        match self.lend(w, i, Call::LeaseAny) {
             Ok(leased) => Ok(Some(leased)),
             // The tile waits, so nothing but memory can have been wanting.
             Err(_) => Err(AllocError),
@@ -207,30 +161,10 @@ impl<'p> Book<'p> {
         ensures worker { IfOk result (λ r. r.lease.worker ≡ w) }
         ensures refused { IfErr result (λ f. Refuses self.old self.new w (Call.TakeHeld id) f) }
     {
-        self.take_held_by(&mut Unnoted, w, id)
-    }
-
-    /// The same as `take_held`, with a scribe.
-    pub fn take_held_by<S: Scribe>(
-        &mut self,
-        scribe: &mut S,
-        w: u8,
-        id: u64,
-    ) -> Result<Leased<'p>, BookFault>
-        requires { IsWorker w }
-        ensures made { IfOk result (Leases self.old self.new w (Call.TakeHeld id)) }
-        ensures can_start { IfOk result (CanBeSearched self.old.problem) }
-        ensures worker { IfOk result (λ r. r.lease.worker ≡ w) }
-        ensures refused { IfErr result (λ f. Refuses self.old self.new w (Call.TakeHeld id) f) }
-        ensures noted { NotesMade result S.notes scribe.old scribe.new self.old w
-            (Call.TakeHeld id) }
-        ensures refusal_noted { IfErr result (λ f.
-            ScribeNotesFault S.notes scribe.old scribe.new self.old w (Call.TakeHeld id) f) }
-    {
         let i = match self.tiles.held_place(id) {
             Ok(i) => i,
-            Err(fault) => return Err(self.refuse(scribe, w, Call::TakeHeld(id), fault)),
+            Err(fault) => return Err(self.refuse(w, Call::TakeHeld(id), fault)),
         };
-        self.lend(scribe, w, i, Call::TakeHeld(id))
+        self.lend(w, i, Call::TakeHeld(id))
     }
 }

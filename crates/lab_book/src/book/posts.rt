@@ -5,12 +5,12 @@ ghost use Rattle.lab_history.specs.declared.entry.Call.TheVariants as calls;
 ghost use Rattle.lab_book.specs.Tile.{is_leased};
 ghost use Rattle.lab_book.specs.Tiling.{tile_at};
 ghost use Rattle.lab_book.specs.Book.{outcome, posted, post_fault};
-ghost use Rattle.lab_book.specs.Calls.{Made, Posts, PostRefused, Doubted, posted_reply, post_of, Finds, RefusedIf, NotesMade, ScribeNotesFault};
+ghost use Rattle.lab_book.specs.Calls.{Made, Posts, PostRefused, Doubted, posted_reply, post_of, Finds, RefusedIf};
 
 use crate::book::{Book, out_of_memory};
 use crate::lease::{Lease, Posted};
 use crate::tiles::stale;
-use lab_history::{BookFault, Call, Entry, Grant, Reply, Scribe, Unnoted};
+use lab_history::{BookFault, Call, Entry, Grant, Reply};
 use std::alloc::AllocError;
 use std::cmp::Ordering;
 use x_branches::{Stretch, run_order};
@@ -78,9 +78,8 @@ impl<'p> Book<'p> {
     }
 
     /// Adds a stretch to the tile at a place.
-    fn commit_post<S: Scribe>(
+    fn commit_post(
         &mut self,
-        scribe: &mut S,
         w: u8,
         i: usize,
         call: Call,
@@ -94,31 +93,26 @@ impl<'p> Book<'p> {
         ensures made { IfOk result (λ r. Made self.old self.new w call (posted_reply r)) }
         ensures unchanged { OnErr result (self.new ≡ self.old) }
         ensures given_back { IfErr result (λ s. s ≡ stretch.entry) }
-        ensures noted { NotesMade result S.notes scribe.old scribe.new self.old w call }
-        ensures not_noted { OnErr result (scribe.new ≡ scribe.old) }
     {
         // For the proof: its states are of the problem's run, so the tile stays one.
         stretch.is_sound();
         self.count_calls();
-        // A post changes neither, so the entry can be made whole before the tile changes.
-        let stop = self.tiles.tile(i).stop();
-        let waiting = self.tiles.waiting();
-        let entry = Entry {
-            worker: w,
-            call,
-            reply: Reply::Posted { stop, waiting },
-        };
-        let Ok(()) = self.history.keep(scribe, 1, &entry) else {
+        // Before the tile changes: its entry must not fail then.
+        let Ok(()) = self.history.keep(1) else {
             return Err(stretch);
         };
         if let Err(stretch) = self.tiles.add(i, stretch) {
-            // The tile is as it was, so the room and what the scribe has in hand go back too.
+            // The tile is as it was, so the room goes back too.
             self.history.give_up();
-            scribe.let_go();
             return Err(stretch);
         }
-        self.history.add(entry);
-        scribe.note();
+        let stop = self.tiles.tile(i).stop();
+        let waiting = self.tiles.waiting();
+        self.history.add(Entry {
+            worker: w,
+            call,
+            reply: Reply::Posted { stop, waiting },
+        });
         Ok(Posted { stop, waiting })
     }
 
@@ -151,36 +145,15 @@ impl<'p> Book<'p> {
         ensures refused { RefusedIf result (PostRefused self.old self.new lease.now stretch.entry) }
         ensures given_back { IfErr result (λ r. r.given ≡ stretch.entry) }
     {
-        self.post_by(&mut Unnoted, lease, stretch, same)
-    }
-
-    /// The same as `post_compared`, with a scribe.
-    pub fn post_by<S: Scribe>(
-        &mut self,
-        scribe: &mut S,
-        lease: &Lease,
-        stretch: Stretch<'p>,
-        same: bool,
-    ) -> Result<Posted, Refused<BookFault, Stretch<'p>>>
-        requires { same ≡ is_same stretch.problem self.old.problem }
-        ensures made { IfOk result (λ r. Posts self.old self.new lease.now stretch.entry r) }
-        ensures refused { RefusedIf result (PostRefused self.old self.new lease.now stretch.entry) }
-        ensures given_back { IfErr result (λ r. r.given ≡ stretch.entry) }
-        ensures noted { NotesMade result S.notes scribe.old scribe.new self.old lease.now.worker
-            (post_of self.old.problem lease.now stretch.entry) }
-        ensures refusal_noted { RefusedIf result
-            (ScribeNotesFault S.notes scribe.old scribe.new self.old
-            lease.now.worker (post_of self.old.problem lease.now stretch.entry)) }
-    {
         let lease = lease.grant();
         let Ok(call) = post_call(lease, &stretch, same) else {
             return Err(out_of_memory(stretch));
         };
         let i = match self.post_place(lease, &stretch, same) {
             Ok(i) => i,
-            Err(fault) => return Err(self.hand_back(scribe, lease.worker, call, fault, stretch)),
+            Err(fault) => return Err(self.hand_back(lease.worker, call, fault, stretch)),
         };
-        match self.commit_post(scribe, lease.worker, i, call, stretch) {
+        match self.commit_post(lease.worker, i, call, stretch) {
             Ok(posted) => Ok(posted),
             Err(stretch) => Err(out_of_memory(stretch)),
         }

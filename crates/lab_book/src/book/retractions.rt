@@ -7,11 +7,10 @@ ghost use Rattle.lab_book.specs.Tile.{is_leased, is_free};
 ghost use Rattle.lab_book.specs.Tiling.{tile_at};
 ghost use Rattle.lab_book.specs.Book.{retract_fault, back_place};
 ghost use Rattle.lab_book.specs.Calls.{Made, Refuses, RefusesBy, ReturnsTo, Finds, Retracts, OutOfMemoryOr, back_to};
-ghost use Rattle.lab_book.specs.Calls.{NotesMade, ScribeNotesFault, NotesMadeBy, ScribeNotesByFault};
 
 use crate::book::Book;
 use crate::lease::Lease;
-use lab_history::{BookFault, Call, Entry, Grant, Reply, Scribe, Unnoted};
+use lab_history::{BookFault, Call, Entry, Grant, Reply};
 use std::alloc::AllocError;
 use x_branches::Stretch;
 use x_steps::{Mark, State};
@@ -34,41 +33,22 @@ impl<'p> Book<'p> {
         ensures made { OnOk result (Made self.old self.new w (Call.RequestStop id) replies.Done) }
         ensures refused { IfErr result (λ f. Refuses self.old self.new w (Call.RequestStop id) f) }
     {
-        self.request_stop_by(&mut Unnoted, w, id)
-    }
-
-    /// The same as `request_stop`, with a scribe.
-    pub fn request_stop_by<S: Scribe>(
-        &mut self,
-        scribe: &mut S,
-        w: u8,
-        id: u64,
-    ) -> Result<(), BookFault>
-        requires { IsWorker w }
-        ensures made { OnOk result (Made self.old self.new w (Call.RequestStop id) replies.Done) }
-        ensures refused { IfErr result (λ f. Refuses self.old self.new w (Call.RequestStop id) f) }
-        ensures noted { NotesMade result S.notes scribe.old scribe.new self.old w
-            (Call.RequestStop id) }
-        ensures refusal_noted { IfErr result (λ f.
-            ScribeNotesFault S.notes scribe.old scribe.new self.old w (Call.RequestStop id) f) }
-    {
         let i = match self.tiles.open_place(id) {
             Ok(i) => i,
-            Err(fault) => return Err(self.refuse(scribe, w, Call::RequestStop(id), fault)),
+            Err(fault) => return Err(self.refuse(w, Call::RequestStop(id), fault)),
         };
         let entry = Entry {
             worker: w,
             call: Call::RequestStop(id),
             reply: Reply::Done,
         };
-        let Ok(()) = self.history.keep(scribe, 1, &entry) else {
+        let Ok(()) = self.history.keep(1) else {
             return Err(BookFault::OutOfMemory);
         };
         // A tile that waits has no worker who could be told at the next post, so it is held at once.
         let status = self.tiles.tile(i).status().asked();
         self.tiles.settle(i, status, true);
         self.history.add(entry);
-        scribe.note();
         Ok(())
     }
 
@@ -97,32 +77,10 @@ impl<'p> Book<'p> {
         ensures problem { IfOk result (λ x. x.problem ≡ self.old.problem) }
         ensures refused { IfErr result (RefusesBy self.old self.new lease.now Call.Retract) }
     {
-        self.retract_by(&mut Unnoted, lease)
-    }
-
-    /// The same as `retract`, with a scribe.
-    pub fn retract_by<S: Scribe>(
-        &mut self,
-        scribe: &mut S,
-        lease: &Lease,
-    ) -> Result<Stretch<'p>, BookFault>
-        ensures made { IfOk result (Retracts self.old self.new lease.now) }
-        ensures problem { IfOk result (λ x. x.problem ≡ self.old.problem) }
-        ensures refused { IfErr result (RefusesBy self.old self.new lease.now Call.Retract) }
-        ensures noted { NotesMadeBy result S.notes scribe.old scribe.new self.old
-            Call.Retract lease.now }
-        ensures refusal_noted { IfErr result (
-            ScribeNotesByFault S.notes scribe.old scribe.new self.old Call.Retract lease.now) }
-    {
         let lease = lease.grant();
         let i = match self.retract_place(lease) {
             Ok(i) => i,
-            Err(fault) => return Err(self.refuse(
-                scribe,
-                lease.worker,
-                Call::Retract(lease),
-                fault,
-            )),
+            Err(fault) => return Err(self.refuse(lease.worker, Call::Retract(lease), fault)),
         };
         // Opened while the tile has it: what is taken out is whole, or it stays.
         let Ok((stretch, mark)) = self.tiles.tile(i).last() else {
@@ -137,12 +95,11 @@ impl<'p> Book<'p> {
             call: Call::Retract(lease),
             reply: Reply::Retracted { from, to },
         };
-        let Ok(()) = self.history.keep(scribe, 1, &entry) else {
+        let Ok(()) = self.history.keep(1) else {
             return Err(BookFault::OutOfMemory);
         };
         self.tiles.retract(i, mark);
         self.history.add(entry);
-        scribe.note();
         Ok(stretch)
     }
 
@@ -178,25 +135,6 @@ impl<'p> Book<'p> {
         ensures made { OnOk result (Made self.old self.new w (back_to id state.now) replies.Done) }
         ensures refused { IfErr result (Refuses self.old self.new w (back_to id state.now)) }
     {
-        self.put_back_by(&mut Unnoted, w, id, state)
-    }
-
-    /// The same as `put_back`, with a scribe.
-    pub fn put_back_by<S: Scribe>(
-        &mut self,
-        scribe: &mut S,
-        w: u8,
-        id: u64,
-        state: &State,
-    ) -> Result<(), BookFault>
-        requires { IsWorker w }
-        ensures made { OnOk result (Made self.old self.new w (back_to id state.now) replies.Done) }
-        ensures refused { IfErr result (Refuses self.old self.new w (back_to id state.now)) }
-        ensures noted { NotesMade result S.notes scribe.old scribe.new self.old w
-            (back_to id state.now) }
-        ensures refusal_noted { IfErr result (
-            ScribeNotesFault S.notes scribe.old scribe.new self.old w (back_to id state.now)) }
-    {
         // First, since a refusal is noted with the state too.
         let Ok(copy) = Mark::of(state) else {
             return Err(BookFault::OutOfMemory);
@@ -204,7 +142,7 @@ impl<'p> Book<'p> {
         let call = Call::PutBack { id, state: copy };
         let (i, count) = match self.mark_place(id, state) {
             Ok(found) => found,
-            Err(fault) => return Err(self.refuse(scribe, w, call, fault)),
+            Err(fault) => return Err(self.refuse(w, call, fault)),
         };
         // Before room is kept: then nothing that was kept has to be given up again.
         let Ok(mark) = self.tiles.tile(i).mark_after(count) else {
@@ -215,12 +153,11 @@ impl<'p> Book<'p> {
             call,
             reply: Reply::Done,
         };
-        let Ok(()) = self.history.keep(scribe, 1, &entry) else {
+        let Ok(()) = self.history.keep(1) else {
             return Err(BookFault::OutOfMemory);
         };
         self.tiles.put_back(i, count, mark);
         self.history.add(entry);
-        scribe.note();
         Ok(())
     }
 }

@@ -9,12 +9,11 @@ ghost use Rattle.lab_book.specs.Tile.{is_leased};
 ghost use Rattle.lab_book.specs.Tiling.{tile_at};
 ghost use Rattle.lab_book.specs.Book.{outcome, split, ended_tile, split_fault};
 ghost use Rattle.lab_book.specs.Calls.{Made, Splits, SplitRefused, Doubted, Finds, RefusedIf, split_of};
-ghost use Rattle.lab_book.specs.Calls.{NotesMade, ScribeNotesFault};
 
 use crate::book::{Book, out_of_memory};
 use crate::lease::Lease;
 use crate::tile::Tile;
-use lab_history::{BookFault, Call, Entry, Grant, Path, Reply, Scribe, Unnoted};
+use lab_history::{BookFault, Call, Entry, Grant, Path, Reply};
 use std::alloc::{AllocError, Global};
 use std::cmp::Ordering;
 use x_branches::{Cut, run_order};
@@ -86,12 +85,12 @@ impl<'p> Book<'p> {
         }
     }
 
-    /// Splits the tile at a place, by this entry.
-    fn commit_split<S: Scribe>(
+    /// Splits the tile at a place.
+    fn commit_split(
         &mut self,
-        scribe: &mut S,
+        w: u8,
         i: usize,
-        entry: Entry,
+        call: Call,
         cut: Cut<'p>,
         tail: Tile<'p>,
     ) -> Result<u64, Cut<'p>>
@@ -100,31 +99,28 @@ impl<'p> Book<'p> {
         requires same { cut.problem ≡ self.old.problem }
         requires fine { split_fault self.old cut true (tile_at self.old.tiles i) ≡ None }
         requires tail { tail ≡ ended_tile cut }
-        requires outcome { outcome self.old entry.worker entry.call ≡ split self.old cut.path i }
-        requires reply { entry.reply ≡ replies.Split (length self.old.tiles) }
-        ensures made { IfOk result
-            (λ id. Made self.old self.new entry.worker entry.call (replies.Split id)) }
+        requires outcome { outcome self.old w call ≡ split self.old cut.path i }
+        ensures made { IfOk result (λ id. Made self.old self.new w call (replies.Split id)) }
         ensures unchanged { OnErr result (self.new ≡ self.old) }
         ensures given_back { IfErr result (λ c. c ≡ cut.entry) }
-        ensures noted { NotesMade result S.notes scribe.old scribe.new self.old
-            entry.worker entry.call }
-        ensures not_noted { OnErr result (scribe.new ≡ scribe.old) }
     {
         cut.is_sound();
         // Before the tiles change: a split is never undone, so its entry must not fail.
-        let Ok(()) = self.history.keep(scribe, 1, &entry) else {
+        let Ok(()) = self.history.keep(1) else {
             return Err(cut);
         };
         let id = match self.tiles.split(i, cut, tail) {
             Ok(id) => id,
             Err(cut) => {
                 self.history.give_up();
-                scribe.let_go();
                 return Err(cut);
             }
         };
-        self.history.add(entry);
-        scribe.note();
+        self.history.add(Entry {
+            worker: w,
+            call,
+            reply: Reply::Split(id),
+        });
         Ok(id)
     }
 
@@ -154,27 +150,6 @@ impl<'p> Book<'p> {
         ensures refused { RefusedIf result (SplitRefused self.old self.new lease.now cut.entry) }
         ensures given_back { IfErr result (λ r. r.given ≡ cut.entry) }
     {
-        self.split_by(&mut Unnoted, lease, cut, same)
-    }
-
-    /// The same as `split_compared`, with a scribe.
-    pub fn split_by<S: Scribe>(
-        &mut self,
-        scribe: &mut S,
-        lease: &Lease,
-        cut: Cut<'p>,
-        same: bool,
-    ) -> Result<u64, Refused<BookFault, Cut<'p>>>
-        requires { same ≡ is_same cut.problem self.old.problem }
-        ensures made { IfOk result (λ id. Splits self.old self.new lease.now cut.entry id) }
-        ensures refused { RefusedIf result (SplitRefused self.old self.new lease.now cut.entry) }
-        ensures given_back { IfErr result (λ r. r.given ≡ cut.entry) }
-        ensures noted { NotesMade result S.notes scribe.old scribe.new self.old lease.now.worker
-            (split_of self.old.problem lease.now cut.entry) }
-        ensures refusal_noted { RefusedIf result
-            (ScribeNotesFault S.notes scribe.old scribe.new self.old
-            lease.now.worker (split_of self.old.problem lease.now cut.entry)) }
-    {
         let lease = lease.grant();
         let alloc = *self.first.state().path.allocator();
         let Ok((call, tail)) = copied(alloc, lease, &cut, same) else {
@@ -183,15 +158,9 @@ impl<'p> Book<'p> {
         // The new tile, as it is made, ends at the cut: so its end is the cut's state, and no other is made.
         let i = match self.split_place(lease, &cut, tail.end(), same) {
             Ok(i) => i,
-            Err(fault) => return Err(self.hand_back(scribe, lease.worker, call, fault, cut)),
+            Err(fault) => return Err(self.hand_back(lease.worker, call, fault, cut)),
         };
-        let entry = Entry {
-            worker: lease.worker,
-            call,
-            // Ids are the numbers below the number of tiles, so the next one is that number.
-            reply: Reply::Split(self.tiles.list().len() as u64),
-        };
-        match self.commit_split(scribe, i, entry, cut, tail) {
+        match self.commit_split(lease.worker, i, call, cut, tail) {
             Ok(id) => Ok(id),
             Err(cut) => Err(out_of_memory(cut)),
         }

@@ -1,36 +1,16 @@
 //! Leases are ended at a desk.
 ghost use Rattle.std.specs.Prelude.{◌≡◌, ◌-◌, true, IfErr, OnErr, OnOk, IsOk};
 ghost use Rattle.lab_history.specs.declared.entry.Call.TheVariants as calls;
-ghost use Rattle.lab_book.specs.Calls.{Ends, RefusesEnd, is_current};
 ghost use Rattle.lab_desk.specs.Record.{NotesDone, NotesRefused, HoldsOthers, ends_lease, holds};
 ghost use Rattle.lab_history.specs.Ending.{call_of_end, is_at_mark};
 
 use crate::desk::{Desk, Desking};
 use crate::locked::{Locked, follow};
 use crate::seat::Seat;
-use lab_book::{Book, BookFault, Lease};
-use lab_history::Ending;
+use lab_book::{BookFault, Ending, Lease};
 use std::marker::Brand;
 use std::sync::Wait;
 use x_steps::Refused;
-
-/// Ends a lease so.
-fn end_by(
-    book: &mut Book<'_>,
-    lease: Lease,
-    ending: Ending,
-) -> Result<(), Refused<BookFault, Lease>>
-    ensures made { OnOk result (Ends book.old book.new (call_of_end ending) lease) }
-    ensures current { is_at_mark ending ≡ true → is_current book.old.tiles lease ≡ true → IsOk result }
-    ensures refused { RefusesEnd result book.old book.new (call_of_end ending) lease }
-    ensures given_back { IfErr result (λ r. r.given ≡ lease) }
-{
-    match ending {
-        Ending::Park => book.park(lease),
-        Ending::Abandon => book.abandon(lease),
-        Ending::Close => book.close(lease),
-    }
-}
 
 impl<'p, L: Desking> Locked<'p, L> {
     /// Ends a lease so.
@@ -50,13 +30,14 @@ impl<'p, L: Desking> Locked<'p, L> {
         ensures room_stays { OnErr result (seat.new.kept ≡ seat.old.kept) }
         ensures number { seat.new.number ≡ seat.old.number }
     {
-        called!(self, seat, |book, _number| end_by(book, lease, ending))
+        called!(self, seat, |book, _number| book.end(lease, ending))
     }
 }
 
 impl<'p, L: Desking> Desk<'p, L> {
-    /// Ends a lease so, as the book does.
-    fn end<R: Wait>(
+    /// Ends a lease, as the book does: its tile is parked, abandoned or closed. A park or an abandon of a
+    /// lease that the seat holds is never refused, whoever else called; nor is memory taken for it.
+    pub fn end<R: Wait>(
         &self,
         rt: &R,
         seat: &mut Seat<L>,

@@ -4,7 +4,7 @@ use Rattle.lab_book.proofs.StepLemmas.{lend_keeps, lent_can_start}
 use Rattle.lab_book.proofs.book.Book.lend.Goals as goal
 
 pub invariant_of-self-2 : goal.invariant_of-self-2
-invariant_of-self-2 g c =
+invariant_of-self-2 c =
     let asked = rw (← c.self.view_is) at c.requires.outcome in
     let within = rw (← c.self.view_is) at c.requires.within in
     let free = rw (← c.self.view_is) at c.requires.free in
@@ -13,7 +13,7 @@ invariant_of-self-2 g c =
     told c.add.ensures
 
 pub returns-clause-can_start : goal.returns-clause-can_start
-returns-clause-can_start g c =
+returns-clause-can_start c =
     let within = rw (← c.self.view_is) at c.requires.within in
     let branch = c.in-Ok.ensures.branch ∙ ap (λ (t : TileValue). t.branch) c.tile.ensures in
     let mark = c.in-Ok.ensures.mark ∙ ap mark_of c.tile.ensures in

@@ -4,7 +4,7 @@ use Rattle.lab_book.proofs.StepLemmas.{settle_keeps}
 use Rattle.lab_book.proofs.book.Book.settle.Goals as goal
 
 pub invariant_of-self : goal.invariant_of-self
-invariant_of-self g c =
+invariant_of-self c =
     let asked = rw (← c.self.view_is) at c.requires.outcome in
     let within = rw (← c.self.view_is) at c.requires.within in
     let leased = rw (← c.self.view_is) at c.requires.leased in

@@ -1,11 +1,13 @@
-use Rattle.lab_pool.specs.Worker.{ending_call}
+use Rattle.lab_history.specs.Ending.{call_of_end}
+use Rattle.lab_pool.specs.Worker.{ending_for}
 use Rattle.lab_history.specs.declared.entry.Reply.TheVariants as reply
 use Rattle.lab_pool.proofs.WorkerLemmas.{last, late, still_held}
 use Rattle.lab_pool.proofs.search.Search.end.Goals as goal
 
 pub returns-in_default-clause-ended : goal.returns-in_default-clause-ended
 returns-in_default-clause-ended g c =
-    last c.args.station.now.seat.now c.end.new.self.seat.now c.end.ensures.number (ending_call c.args.next c.args.self.lease) reply.Done c.in_default.ensures.noted
+    last c.args.station.now.seat.now c.end.new.self.seat.now c.end.ensures.number (call_of_end (ending_for c.args.next) c.args.self.lease) reply.Done
+    (rw c.ending_for.ensures at c.in_default.ensures.noted)
 
 pub returns-clause-ended : goal.returns-clause-ended
 returns-clause-ended g c =

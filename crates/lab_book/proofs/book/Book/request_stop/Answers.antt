@@ -6,15 +6,14 @@ use Rattle.lab_book.specs.Book.{BookValue}
 use Rattle.lab_book.proofs.BookLemmas.{judged_err}
 use Rattle.lab_book.proofs.CallLemmas.{call_made, stop_is}
 use Rattle.lab_book.proofs.StepLemmas.{change_keeps, change_made, asked_is_tile, asked_leased}
-use Rattle.lab_book.proofs.ScribeLemmas.{note_made}
-use Rattle.lab_book.proofs.book.Book.request_stop_by.Goals as goal
+use Rattle.lab_book.proofs.book.Book.request_stop.Goals as goal
 
 pub refuse-requires : goal.refuse-requires
-refuse-requires g c = rw (← c.self.view_is)
+refuse-requires c = rw (← c.self.view_is)
     (judged_err _ _ _ _ _ _ _ (stop_is _ c.args.w c.args.id) (inr c.open_place.ensures.place) c.in-Err.is)
 
 pub invariant_of-self-2 : goal.invariant_of-self-2
-invariant_of-self-2 g c =
+invariant_of-self-2 c =
     let t = tile_at c.self.inside.tiles c.in-Ok.i in
     let status = c.asked-status.ensures ∙ ap asked_status (c.status.ensures ∙ ap (λ (t : TileValue). t.status) c.tile.ensures) in
     change_keeps _ _ _ _ _ _ _ c.self.invariant c.args.w _ c.in-Ok.i c.in-Ok.ensures.within
@@ -24,7 +23,7 @@ invariant_of-self-2 g c =
     (asked_is_tile _ _ _ status c.in-Ok.ensures.not_closed) c.in-Ok-keep.ensures.kept c.add.ensures
 
 pub returns-clause-made : goal.returns-clause-made
-returns-clause-made g c =
+returns-clause-made c =
     let t = tile_at c.self.inside.tiles c.in-Ok.i in
     let status = c.asked-status.ensures ∙ ap asked_status (c.status.ensures ∙ ap (λ (t : TileValue). t.status) c.tile.ensures) in
     rw (← c.self.view_is)
@@ -32,9 +31,3 @@ returns-clause-made g c =
     (record t { status = c.asked-status.result; stop = true }) replies.Done _ _
     (call_made _ _ _ _ _ _ _ (stop_is _ c.args.w c.args.id) (inr c.open_place.ensures.place) c.in-Ok.is) refl (rw status refl)
     c.settle.ensures c.in-Ok-keep.ensures.kept c.add.ensures)
-
-pub returns-clause-noted : goal.returns-clause-noted
-returns-clause-noted g c =
-    let index = ap (λ (b : BookValue). length b.history) c.self.view_is in
-    note_made g.S.Scribe.notes _ _ c.args.self.now _ _ _ _ _ _ (returns-clause-made g c) index refl
-    (c.note.ensures _ _ _ c.in-Ok-keep.ensures.in_hand)

@@ -8,14 +8,13 @@ use Rattle.lab_book.proofs.BookLemmas.{judged_err}
 use Rattle.lab_book.proofs.CallLemmas.{call_made, retract_is}
 use Rattle.lab_book.proofs.StepLemmas.{with_history}
 use Rattle.lab_book.proofs.StepLemmas.{change_keeps, change_made, retracted_reply, retracted_problem, leased_open, told_same}
-use Rattle.lab_book.proofs.ScribeLemmas.{note_made}
-use Rattle.lab_book.proofs.book.Book.retract_by.Goals as goal
+use Rattle.lab_book.proofs.book.Book.retract.Goals as goal
 
 pub refuse-requires : goal.refuse-requires
-refuse-requires g c = judged_err _ _ _ _ _ _ _ (retract_is c.args.self.now _ c.grant-lease.result) c.retract_place.ensures.place c.in-Err.is
+refuse-requires c = judged_err _ _ _ _ _ _ _ (retract_is c.args.self.now _ c.grant-lease.result) c.retract_place.ensures.place c.in-Err.is
 
 pub invariant_of-self-2 : goal.invariant_of-self-2
-invariant_of-self-2 g c =
+invariant_of-self-2 c =
     let before =
     with_history c.self.inside.problem.now c.self.inside.branch c.self.inside.first c.self.inside.tiles c.self.inside.history.entries in
     let last = rw c.tile.ensures at c.in-Ok-last.ensures.stretch in
@@ -30,7 +29,7 @@ invariant_of-self-2 g c =
     (λ h. part_is_tile _ _ _ h (leased_open _ leased)) c.in-Ok-keep.ensures.kept c.add.ensures
 
 pub returns-clause-made : goal.returns-clause-made
-returns-clause-made g c =
+returns-clause-made c =
     let before =
     with_history c.self.inside.problem.now c.self.inside.branch c.self.inside.first c.self.inside.tiles c.self.inside.history.entries in
     let last = rw c.tile.ensures at c.in-Ok-last.ensures.stretch in
@@ -45,18 +44,7 @@ returns-clause-made g c =
     (ap₂ replies.Retracted c.in-Ok-ends_of.ensures.from c.in-Ok-ends_of.ensures.to))
 
 pub returns-clause-problem : goal.returns-clause-problem
-returns-clause-problem g c =
+returns-clause-problem c =
     let within = rw (← c.self.view_is) at c.in-Ok.ensures.within in
     let last = rw c.tile.ensures at c.in-Ok-last.ensures.stretch in
     rw (← c.self.view_is) (retracted_problem _ _ _ _ _ _ c.self.invariant.sound.tiling within last)
-
-pub returns-clause-noted : goal.returns-clause-noted
-returns-clause-noted g c =
-    let index = ap (λ (b : BookValue). length b.history) c.self.view_is in
-    note_made g.S.Scribe.notes _ _ c.args.self.now _ _ _ _ _ _ (returns-clause-made g c) index
-    (λ j. record {
-      worker = (c.grant-lease.ensures j).worker;
-      call = calls.Retract (c.grant-lease.ensures j);
-      reply = replies.Retracted (c.in-Ok-ends_of.ensures.from j) (c.in-Ok-ends_of.ensures.to j);
-    })
-    (c.note.ensures _ _ _ c.in-Ok-keep.ensures.in_hand)

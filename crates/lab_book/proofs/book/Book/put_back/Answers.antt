@@ -9,14 +9,13 @@ use Rattle.lab_book.proofs.TileLemmas.{part_is_tile}
 use Rattle.lab_book.proofs.BookLemmas.{judged_fault}
 use Rattle.lab_book.proofs.CallLemmas.{put_back_is, put_back_ok}
 use Rattle.lab_book.proofs.StepLemmas.{change_keeps, change_made, back_is, free_open}
-use Rattle.lab_book.proofs.ScribeLemmas.{note_made}
-use Rattle.lab_book.proofs.book.Book.put_back_by.Goals as goal
+use Rattle.lab_book.proofs.book.Book.put_back.Goals as goal
 
 pub refuse-requires : goal.refuse-requires
-refuse-requires g c = rw c.in-Ok.ensures (judged_fault _ _ _ _ _ _ (put_back_is _ _ _ _) c.in-Err.ensures.refused)
+refuse-requires c = rw c.in-Ok.ensures (judged_fault _ _ _ _ _ _ (put_back_is _ _ _ _) c.in-Err.ensures.refused)
 
 pub invariant_of-self-2 : goal.invariant_of-self-2
-invariant_of-self-2 g c =
+invariant_of-self-2 c =
     let place = rw (← c.self.view_is) at c.in-Ok-mark_place.ensures.place in
     let within = rw (← c.self.view_is) at c.in-Ok-mark_place.ensures.within in
     let free = rw (← c.self.view_is) at c.in-Ok-mark_place.ensures.free in
@@ -34,7 +33,7 @@ invariant_of-self-2 g c =
     (λ h. part_is_tile _ _ c.in-Ok-mark_place.found.1 h (free_open _ free)) c.in-Ok-keep.ensures.kept c.add.ensures
 
 pub returns-clause-made : goal.returns-clause-made
-returns-clause-made g c =
+returns-clause-made c =
     let place = rw (← c.self.view_is) at c.in-Ok-mark_place.ensures.place in
     let within = rw (← c.self.view_is) at c.in-Ok-mark_place.ensures.within in
     let kept = rw (← c.self.view_is) at c.in-Ok-mark_place.ensures.kept in
@@ -49,10 +48,3 @@ returns-clause-made g c =
     }) replies.Done _ _
     (put_back_ok _ c.args.w c.args.id c.in-Ok.copy (state_value c.args.state.now) c.in-Ok-mark_place.found.0 c.in-Ok.ensures place)
     refl back c.put_back.ensures c.in-Ok-keep.ensures.kept c.add.ensures)
-
-pub returns-clause-noted : goal.returns-clause-noted
-returns-clause-noted g c =
-    let index = ap (λ (b : BookValue). length b.history) c.self.view_is in
-    note_made g.S.Scribe.notes _ _ c.args.self.now _ _ _ _ _ _ (returns-clause-made g c) index
-    (λ j. record { worker = c.args.w; call = calls.PutBack c.args.id (c.in-Ok.ensures j); reply = replies.Done })
-    (c.note.ensures _ _ _ c.in-Ok-keep.ensures.in_hand)

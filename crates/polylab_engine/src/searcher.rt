@@ -16,7 +16,7 @@ use cover_links::LinkTable;
 use cover_problem::{Problem, Table};
 use std::alloc::{AllocError, Global};
 use table_probe::prefers_bits;
-use x_steps::{AtFault, Cursor, Label, Machine, State};
+use x_steps::{Cursor, Label, Machine, State};
 
 /// A machine with one of the tables.
 #[derive(Drop)]
@@ -43,13 +43,14 @@ pub fn machine_at<'p, T: Table>(
     ensures { Returns result (position problem.now (state_value state.now)) }
 {
     let table = T::new(alloc, problem)?;
-    match Machine::at(alloc, problem, table, state) {
-        Ok(machine) => Ok(machine),
-        Err(refused) => match refused.fault {
-            AtFault::OutOfMemory => Err(AllocError),
-            // As `requires` says, the state is one of the problem's run.
-            AtFault::NotAState => unreachable!(),
-        },
+    match Machine::new(alloc, problem, table) {
+        Ok(machine) => {
+            // As `requires` says, the state is one of the problem's run: on the way there nothing has to be judged.
+            let mut machine = machine;
+            machine.move_to(state);
+            Ok(machine)
+        }
+        Err(_) => Err(AllocError),
     }
 }
 

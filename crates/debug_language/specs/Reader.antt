@@ -6,9 +6,9 @@
 -- Example: `split 0 4` asks to split at level 0 and option 4; `split 0`, `split 0 04` and `# split` are no commands.
 -- proofs/ReaderExamples.antt computes it.
 use Rattle.std.specs.Prelude.{ℕ, ◌≡◌, ◌==◌, nat_le, Bool, true, ◌&&◌, if◌then◌else◌, List, [], ◌∷◌, codes, Option, Some, option_map}
-use Rattle.shared_words.specs.Workers.{most_workers}
-use Rattle.std.specs.Prelude.{is_some, option_and_then}
+use Rattle.std.specs.Prelude.{is_some, option_and_then, Result, IfOk, OnErr}
 use Rattle.std.specs.Prelude as prelude
+use Rattle.shared_words.specs.Workers.{most_workers}
 use Rattle.std.specs.List.{slice_split}
 use Rattle.std.specs.Result.{result_ok}
 use Rattle.std.specs.Str.{bytes_eq}
@@ -19,15 +19,15 @@ use Rattle.text_lines.specs.declared.refusal.Refusal.TheVariants as refusals
 use Rattle.cover_problem.specs.Problem.{ProblemValue}
 use Rattle.x_snapshot.specs.Reader.{only, option_number, break_from, state_from}
 use Rattle.debug_language.specs.Command.{CommandValue, Nothing, Step, Run, Back, SetBreak, Clear, Ask, Split, Park, Save}
-use Rattle.debug_language.specs.Command.{SaveBreaks, Close, Enter, Retract, Hold, PutBack}
+use Rattle.debug_language.specs.Command.{SaveBreaks, Close, Enter, Retract, Hold, PutBack, command_value}
 use Rattle.debug_language.specs.Question.{question_of}
 use Rattle.debug_language.specs.declared.fault.DebugFault.{DebugFault}
 use Rattle.debug_language.specs.declared.fault.DebugFault.TheVariants.{BadCommand}
 use Rattle.debug_language.specs.declared.engine.EngineCommand.{EngineCommand}
 use Rattle.debug_language.specs.declared.engine.EngineCommand.TheVariants as engine
-use Rattle.debug_language.specs.Command.{command_value}
+use Rattle.debug_language.specs.declared.reader.LineCommand.{LineCommand}
+use Rattle.debug_language.specs.declared.reader.LineCommand.TheVariants as lines
 use Rattle.debug_language.specs.declared.command.Command as declared
-use Rattle.std.specs.Prelude.{Result, IfOk, OnErr}
 
 -- *numbers and cuts*
 
@@ -82,64 +82,36 @@ joined_cut word = if bytes_eq word (codes "start") then Some prelude.None else o
 
 -- *commands of more than one word*
 
--- `step`: how many steps
-abbrev pub steps_from : List (List ℕ) → Option CommandValue
-steps_from words = option_map Step (count_from words)
-
--- `back`: how many steps back
-abbrev pub back_from : List (List ℕ) → Option CommandValue
-back_from words = option_map Back (count_from words)
-
--- `break`: a breakpoint over problem p
-abbrev pub set_from : ProblemValue → List (List ℕ) → Option CommandValue
-set_from p words = option_map SetBreak (break_from p words)
-
--- `open`: a cut
-abbrev pub enter_from : List (List ℕ) → Option CommandValue
-enter_from words = option_map Enter (cut_from words)
-
--- `hold`: a cut
-abbrev pub hold_from : List (List ℕ) → Option CommandValue
-hold_from words = option_map Hold (cut_from words)
-
 -- `split`: a level and an option
 abbrev pub split_from : List (List ℕ) → Option CommandValue
 split_from words = option_map (λ pair. Split pair.0 pair.1) (pair_from words)
 
--- `save`: the word `breaks`
-abbrev pub save_word : List ℕ → Option CommandValue
-save_word word = if bytes_eq word (codes "breaks") then Some SaveBreaks else prelude.None
-
 -- `save` with more words: the one word `breaks`, and no other
 abbrev pub save_from : List (List ℕ) → Option CommandValue
-save_from words = option_and_then save_word (only words)
+save_from words = option_and_then (λ word. if bytes_eq word (codes "breaks") then Some SaveBreaks else prelude.None) (only words)
 
 -- `putback`: a cut in one word, and a state as in a snapshot
 unfoldable pub put_back_from : List (List ℕ) → Option CommandValue
 put_back_from [] = prelude.None
 put_back_from (word ∷ words) = option_and_then (λ lo. option_map (PutBack lo) (result_ok (state_from words))) (joined_cut word)
 
--- a command without a cut
+-- a command without a cut: how many steps, how many back, a breakpoint over problem p, a split, or what is saved
 unfoldable pub plain_command : ProblemValue → List ℕ → List (List ℕ) → Option CommandValue
 plain_command p key words =
-    if bytes_eq key (codes "step") then steps_from words else
-    (if bytes_eq key (codes "back") then back_from words else
-    (if bytes_eq key (codes "break") then set_from p words else
+    if bytes_eq key (codes "step") then option_map Step (count_from words) else
+    (if bytes_eq key (codes "back") then option_map Back (count_from words) else
+    (if bytes_eq key (codes "break") then option_map SetBreak (break_from p words) else
     (if bytes_eq key (codes "split") then split_from words else
     (if bytes_eq key (codes "save") then save_from words else prelude.None))))
 
--- a command by its first word and the others
+-- a command by its first word and the others: one with a cut, or a plain one
 unfoldable pub long_command : ProblemValue → List ℕ → List (List ℕ) → Option CommandValue
 long_command p key words =
-    if bytes_eq key (codes "open") then enter_from words else
-    (if bytes_eq key (codes "hold") then hold_from words else
+    if bytes_eq key (codes "open") then option_map Enter (cut_from words) else
+    (if bytes_eq key (codes "hold") then option_map Hold (cut_from words) else
     (if bytes_eq key (codes "putback") then put_back_from words else plain_command p key words))
 
 -- *commands of one word*
-
--- a question
-abbrev pub ask_from : List ℕ → Option CommandValue
-ask_from key = option_map Ask (question_of key)
 
 -- those that do something, or a question
 abbrev pub lone_command : List ℕ → Option CommandValue
@@ -151,7 +123,7 @@ lone_command key =
     (if bytes_eq key (codes "park") then Some Park else
     (if bytes_eq key (codes "save") then Some Save else
     (if bytes_eq key (codes "close") then Some Close else
-    (if bytes_eq key (codes "retract") then Some Retract else ask_from key)))))))
+    (if bytes_eq key (codes "retract") then Some Retract else option_map Ask (question_of key))))))))
 
 -- *lines*
 
@@ -194,10 +166,6 @@ Asks result said = FindsAs command_value result said
 
 -- *the engine's own commands*
 
--- `load`: a number of lines
-abbrev pub load_from : List (List ℕ) → Option EngineCommand
-load_from words = option_map engine.Load (number_from words)
-
 -- `pool`: 1 to 32 workers
 abbrev pub workers : ℕ → Option EngineCommand
 workers n = if nat_le n most_workers then Some (engine.Pool n) else prelude.None
@@ -206,18 +174,25 @@ workers n = if nat_le n most_workers then Some (engine.Pool n) else prelude.None
 abbrev pub pool_from : List (List ℕ) → Option EngineCommand
 pool_from words = option_and_then workers (count_from words)
 
--- `quit`: no more words
-abbrev pub quit_from : List (List ℕ) → Option EngineCommand
-quit_from words = if is_empty words then Some engine.Quit else prelude.None
-
--- the engine's command of these words
+-- the engine's command of these words: `load` has a number of lines, `pool` of workers, and `quit` no more words
 unfoldable pub engine_from : List (List ℕ) → Option EngineCommand
 engine_from [] = prelude.None
 engine_from (key ∷ words) =
-    if bytes_eq key (codes "load") then load_from words else
+    if bytes_eq key (codes "load") then option_map engine.Load (number_from words) else
     (if bytes_eq key (codes "pool") then pool_from words else
-    (if bytes_eq key (codes "quit") then quit_from words else prelude.None))
+    (if bytes_eq key (codes "quit") then (if is_empty words then Some engine.Quit else prelude.None) else prelude.None))
 
 -- the engine's command of a line, if it is one
 abbrev pub engine_command_of : List ℕ → Option EngineCommand
 engine_command_of line = engine_from (words_of (without_return line))
+
+-- *what a line asks for*
+
+-- a command of the engine, or else one of a session
+abbrev pub AsksFor : ProblemValue → List ℕ → LineCommand → Type 0
+AsksFor p line (lines.Engine command) = engine_command_of line ≡ Some command
+AsksFor p line (lines.Session command) = (engine_command_of line ≡ prelude.None) × IsCommand p line command
+
+-- the line is no command; or it is one of a session, and memory ran out
+abbrev pub IsNoLine : ProblemValue → List ℕ → Refusal DebugFault → Type 0
+IsNoLine p line refusal = (engine_command_of line ≡ prelude.None) × IsNoCommand p line refusal

@@ -1,34 +1,30 @@
 -- The lines of replies, as the words of each.
 --
--- Example: the branch from the cut 4 to the end that waits is `branch 4 to end waiting`.
--- proofs/ReplyExamples.antt computes it.
-use Rattle.std.specs.Prelude.{ℕ, ◌≡◌, Bool, List, [], ◌∷◌, ◌++◌, length, map, decimal, codes, count_by, Option, Some, Result, OnOk}
+-- Example: the branch from the cut 4 to the end that waits is `branch 4 to end waiting`; where option 4 is chosen and option 5 is about to
+-- be tried, the search is `at X5 5 4`. proofs/ReplyExamples.antt computes these.
+use Rattle.std.specs.Prelude.{ℕ, Bool, List, [], ◌∷◌, ◌++◌, length, map, decimal, codes, count_by, Option, unwrap_or}
 use Rattle.std.specs.List.{list_all}
 use Rattle.text_lines.specs.Lines.{is_newline}
 use Rattle.text_lines.specs.Writing.{line_text}
 use Rattle.cover_problem.specs.Problem.{ProblemValue, is_item, name_at}
-use Rattle.text_lines.specs.Writes.{AddsLine, WritesLine}
+use Rattle.x_steps.specs.StateValue.{StateValue}
 use Rattle.x_branches.specs.declared.fault.RunnerFault.{RunnerFault}
 use Rattle.x_branches.specs.Faults as runner
 use Rattle.x_snapshot.specs.declared.fault.SnapshotFault.{SnapshotFault}
 use Rattle.x_snapshot.specs.Faults as snapshot
-use Rattle.x_texts.specs.Words.{cut_words}
+use Rattle.x_texts.specs.Words.{state_words, cut_words}
 use Rattle.debug_language.specs.declared.fault.DebugFault.{DebugFault}
 use Rattle.debug_language.specs.Faults as debug
 use Rattle.debug_language.specs.declared.words.Plain.{Plain}
 use Rattle.debug_language.specs.declared.words.Plain.TheVariants.{End, Parked, Closed, NothingUntried, NoBranches}
 use Rattle.debug_language.specs.declared.words.Counted.{Counted}
-use Rattle.debug_language.specs.declared.words.Counted.TheVariants as counted
+use Rattle.debug_language.specs.declared.words.Counted.TheVariants as counts
 use Rattle.debug_language.specs.declared.words.Listed.{Listed}
 use Rattle.debug_language.specs.declared.words.Listed.TheVariants.{Chosen, Active, Second}
 use Rattle.debug_language.specs.declared.words.Standing.{Standing}
 use Rattle.debug_language.specs.declared.words.Standing.TheVariants.{Waiting, Leased, Held}
 use Rattle.debug_language.specs.declared.words.Layer.{Layer}
 use Rattle.debug_language.specs.declared.words.Layer.TheVariants as layer
-use Rattle.std.specs.Prelude.{option_copied}
-use Rattle.std.specs.Borrow.{Bor}
-use Rattle.std.specs.Global.{Vec}
-use Rattle.x_steps.specs.StateView.{row_values}
 
 -- *first words*
 
@@ -42,12 +38,12 @@ plain_word NoBranches = codes "branches none"
 
 -- what is counted
 abbrev pub counted_word : Counted → List ℕ
-counted_word counted.Moved = codes "moved"
-counted_word counted.Cleared = codes "cleared"
-counted_word counted.Visits = codes "visits"
-counted_word counted.Snapshot = codes "snapshot"
-counted_word counted.Retracted = codes "retracted"
-counted_word counted.Steps = codes "steps"
+counted_word counts.Moved = codes "moved"
+counted_word counts.Cleared = codes "cleared"
+counted_word counts.Visits = codes "visits"
+counted_word counts.Snapshot = codes "snapshot"
+counted_word counts.Retracted = codes "retracted"
+counted_word counts.Steps = codes "steps"
 
 -- an item with its options
 abbrev pub listed_word : Listed → List ℕ
@@ -70,6 +66,18 @@ layer_word layer.Snapshot = codes "snapshot"
 
 -- *lines*
 
+-- a line that is always the same
+abbrev pub plain : Plain → List (List ℕ)
+plain p = plain_word p ∷ []
+
+-- a count
+abbrev pub counted : Counted → ℕ → List (List ℕ)
+counted c n = counted_word c ∷ decimal n ∷ []
+
+-- where the search stands
+abbrev pub state_line : StateValue → List (List ℕ)
+state_line s = codes "at" ∷ state_words s
+
 -- a branch between two cuts
 abbrev pub branch_words : Option (List ℕ) → Option (List ℕ) → List (List ℕ)
 branch_words lo hi = codes "branch" ∷ cut_words (codes "start") lo ++ codes "to" ∷ cut_words (codes "end") hi
@@ -77,14 +85,6 @@ branch_words lo hi = codes "branch" ∷ cut_words (codes "start") lo ++ codes "t
 -- the same, and how it stands
 abbrev pub standing_words : Option (List ℕ) → Option (List ℕ) → Standing → List (List ℕ)
 standing_words lo hi standing = branch_words lo hi ++ standing_word standing ∷ []
-
--- a branch between two cuts that are borrowed
-abbrev pub lent_branch : Option (Bor (List ℕ)) → Option (Bor (List ℕ)) → List (List ℕ)
-lent_branch lo hi = branch_words (option_copied lo) (option_copied hi)
-
--- the same, and how it stands
-abbrev pub lent_standing : Option (Bor (List ℕ)) → Option (Bor (List ℕ)) → Standing → List (List ℕ)
-lent_standing lo hi standing = standing_words (option_copied lo) (option_copied hi) standing
 
 -- the options of a level that can be cut off
 abbrev pub untried_words : ℕ → List ℕ → List (List ℕ)
@@ -99,14 +99,6 @@ covered_words names (item ∷ items) = codes "covered" ∷ map (name_at names) (
 abbrev pub list_words : List (List ℕ) → Listed → ℕ × List ℕ → List (List ℕ)
 list_words names listed row = listed_word listed ∷ name_at names row.0 ∷ decimal (length row.1) ∷ map decimal row.1
 
--- an item of a problem, and its options
-abbrev pub list_line : ProblemValue → Listed → ℕ → List ℕ → List (List ℕ)
-list_line p listed item options = list_words p.names listed (item, options)
-
--- items of a problem with their options, a line for each
-abbrev pub list_lines : ProblemValue → Listed → List (ℕ × Vec ℕ) → List (List (List ℕ))
-list_lines p listed rows = map (list_words p.names listed) (row_values rows)
-
 -- whether each row is one of an item of the problem
 abbrev pub are_of_items : ProblemValue → List (ℕ × List ℕ) → Bool
 are_of_items p rows = list_all (λ row. is_item (length p.names) row.0) rows
@@ -115,24 +107,20 @@ are_of_items p rows = list_all (λ row. is_item (length p.names) row.0) rows
 abbrev pub refused_words : Layer → ℕ → List ℕ → List (List ℕ)
 refused_words layer number name = codes "refused" ∷ layer_word layer ∷ decimal number ∷ name ∷ []
 
--- the call adds the line of what the debugger refuses
-abbrev pub AddsDebugRefusal : {X E : Type 0} → Result X E → Vec ℕ → Vec ℕ → DebugFault → Type 0
-AddsDebugRefusal result old new f = AddsLine result old new (refused_words layer.Debug (debug.number_of f) (debug.name_of f))
+-- what the debugger refuses
+abbrev pub debug_refusal : DebugFault → List (List ℕ)
+debug_refusal f = refused_words layer.Debug (debug.number_of f) (debug.name_of f)
 
--- the refusal has this number, and the text goes on with its line
-abbrev pub WritesRefusal : Vec ℕ → Vec ℕ → Layer → Option ℕ → List ℕ → Type 0
-WritesRefusal old new layer number name = (n : ℕ) × (number ≡ Some n) × WritesLine old new (refused_words layer n name)
+-- what a runner refuses; out of memory has no number, and is never told
+abbrev pub runner_refusal : RunnerFault → List (List ℕ)
+runner_refusal f = refused_words layer.Runner (unwrap_or (runner.number_of f) 0) (runner.name_of f)
 
--- the call adds the line of what a runner refuses, which has a number then
-abbrev pub AddsRunnerRefusal : {X E : Type 0} → Result X E → Vec ℕ → Vec ℕ → RunnerFault → Type 0
-AddsRunnerRefusal result old new f = OnOk result (WritesRefusal old new layer.Runner (runner.number_of f) (runner.name_of f))
-
--- the same of a text that is no snapshot
-abbrev pub AddsSnapshotRefusal : {X E : Type 0} → Result X E → Vec ℕ → Vec ℕ → SnapshotFault → Type 0
-AddsSnapshotRefusal result old new f = OnOk result (WritesRefusal old new layer.Snapshot (snapshot.number_of f) (snapshot.name_of f))
+-- why a text is no snapshot
+abbrev pub snapshot_refusal : SnapshotFault → List (List ℕ)
+snapshot_refusal f = refused_words layer.Snapshot (unwrap_or (snapshot.number_of f) 0) (snapshot.name_of f)
 
 -- *whole replies*
 
 -- a snapshot's text after the number of its lines
 abbrev pub saved_text : List ℕ → List ℕ
-saved_text text = line_text (codes "snapshot" ∷ decimal (count_by is_newline text) ∷ []) ++ text
+saved_text text = line_text (counted counts.Snapshot (count_by is_newline text)) ++ text

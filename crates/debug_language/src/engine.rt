@@ -1,8 +1,8 @@
 //! The commands that are done by the engine, and not by a search.
-ghost use Rattle.std.specs.Prelude.{◌≡◌};
-ghost use Rattle.text_lines.specs.Lines.{words_of};
+ghost use Rattle.std.specs.Prelude.{◌≡◌, ◌∷◌, Some, None, option_map, if◌then◌else◌};
+ghost use Rattle.text_lines.specs.Lines.{words_of, is_empty};
 ghost use Rattle.debug_language.specs.Reader as spec;
-ghost use Rattle.debug_language.specs.Reader.{engine_command_of};
+ghost use Rattle.debug_language.specs.Reader.{engine_from, engine_command_of};
 
 use crate::reader::{count_from, number_from};
 use shared_words::MOST_WORKERS;
@@ -21,7 +21,7 @@ pub enum EngineCommand {
 
 /// The snapshot to read, as the words say.
 fn load_from(words: &[u8]) -> Option<EngineCommand>
-    ensures { result ≡ spec.load_from (words_of words.now) }
+    ensures { result ≡ option_map EngineCommand.Load (spec.number_from (words_of words.now)) }
 {
     // Of no lines the snapshot ends early: its reader refuses that, and not this line.
     let lines = number_from(words)?;
@@ -43,7 +43,7 @@ fn pool_from(words: &[u8]) -> Option<EngineCommand>
 
 /// The end, where no word follows.
 fn quit_from(words: &[u8]) -> Option<EngineCommand>
-    ensures { result ≡ spec.quit_from (words_of words.now) }
+    ensures { result ≡ (if is_empty (words_of words.now) then Some EngineCommand.Quit else None) }
 {
     if has_words(words) {
         None
@@ -52,24 +52,24 @@ fn quit_from(words: &[u8]) -> Option<EngineCommand>
     }
 }
 
-/// The engine's command of these words.
+/// The engine's command by its first word and the others. None of these is a command of a search.
 #[tactic(auto, unfolding(crate::specs::Reader::engine_from))]
-fn engine_from(words: &[u8]) -> Option<EngineCommand>
-    ensures { result ≡ spec.engine_from (words_of words.now) }
+pub(crate) fn engine_command(key: &[u8], words: &[u8]) -> Option<EngineCommand>
+    ensures { result ≡ engine_from (key.now ∷ words_of words.now) }
 {
-    let (key, rest) = split_word(words)?;
-    // None of these begins a command of a search, so either reader may be asked first.
     match key {
-        b"load" => load_from(rest),
-        b"pool" => pool_from(rest),
-        b"quit" => quit_from(rest),
+        b"load" => load_from(words),
+        b"pool" => pool_from(words),
+        b"quit" => quit_from(words),
         _ => None,
     }
 }
 
-/// Reads a command line: the engine's command that it is, or None. None of these is a command of a search.
+/// Reads a command line: the engine's command that it is, or None.
+#[tactic(auto, unfolding(crate::specs::Reader::engine_from))]
 pub fn read_engine_command(line: &[u8]) -> Option<EngineCommand>
     ensures { result ≡ engine_command_of line.now }
 {
-    engine_from(without_return(line))
+    let (key, words) = split_word(without_return(line))?;
+    engine_command(key, words)
 }

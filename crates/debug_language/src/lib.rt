@@ -20,7 +20,7 @@ pub use lines::{
     write_untried,
 };
 pub use question::Question;
-pub use reader::read_command;
+pub use reader::{LineCommand, read_command, read_line};
 pub use refusals::{write_debug_fault, write_refused, write_runner_fault, write_snapshot_fault};
 pub use replies::{write_at, write_counted, write_met, write_plain, write_set};
 pub use words::{Counted, Layer, Listed, Plain, Standing};

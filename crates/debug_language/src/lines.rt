@@ -1,5 +1,5 @@
 //! The lines that show branches, items and levels.
-ghost use Rattle.std.specs.Prelude.{◌≡◌, ◌<◌, ◌≤◌, true, map, length, count_by};
+ghost use Rattle.std.specs.Prelude.{◌≡◌, ◌<◌, ◌≤◌, true, map, length, count_by, option_copied};
 ghost use Rattle.std.specs.List.{list_all};
 ghost use Rattle.text_lines.specs.Lines.{is_newline};
 ghost use Rattle.text_lines.specs.Writing.{spaced};
@@ -7,8 +7,7 @@ ghost use Rattle.shared_words.specs.Answers.{Adds};
 ghost use Rattle.text_lines.specs.Writes.{AddsLine, AddsWords, AddsLines};
 ghost use Rattle.cover_problem.specs.Problem.{is_item, name_at};
 ghost use Rattle.x_steps.specs.StateView.{row_values};
-ghost use Rattle.debug_language.specs.Replies.{untried_words, covered_words};
-ghost use Rattle.debug_language.specs.Replies.{saved_text, are_of_items, lent_branch, lent_standing, list_line, list_lines};
+ghost use Rattle.debug_language.specs.Replies.{branch_words, standing_words, untried_words, covered_words, list_words, saved_text, are_of_items};
 
 use crate::replies::write_counted;
 use crate::words::{Counted, Listed, Standing};
@@ -19,7 +18,8 @@ use x_texts::write_cut;
 
 /// Writes a branch without the end of its line.
 fn write_cuts(text: &mut Vec<u8>, lo: Option<&[u32]>, hi: Option<&[u32]>) -> Result<(), AllocError>
-    ensures { Adds result text.old text.new (spaced (lent_branch lo.entry hi.entry)) }
+    ensures { Adds result text.old text.new
+        (spaced (branch_words (option_copied lo.entry) (option_copied hi.entry))) }
 {
     // The key of each line stands first, and each word after it brings its own blank.
     text.extend_from_slice(b"branch")?;
@@ -35,7 +35,8 @@ pub fn write_branch(
     lo: Option<&[u32]>,
     hi: Option<&[u32]>,
 ) -> Result<(), AllocError>
-    ensures { AddsLine result text.old text.new (lent_branch lo.entry hi.entry) }
+    ensures { AddsLine result text.old text.new
+        (branch_words (option_copied lo.entry) (option_copied hi.entry)) }
 {
     write_cuts(text, lo, hi)?;
     text.push(b'\n')?;
@@ -49,7 +50,8 @@ pub fn write_standing(
     hi: Option<&[u32]>,
     standing: Standing,
 ) -> Result<(), AllocError>
-    ensures { AddsLine result text.old text.new (lent_standing lo.entry hi.entry standing) }
+    ensures { AddsLine result text.old text.new
+        (standing_words (option_copied lo.entry) (option_copied hi.entry) standing) }
 {
     write_cuts(text, lo, hi)?;
     write_word(text, standing.word())?;
@@ -104,7 +106,8 @@ pub fn write_list(
 ) -> Result<(), AllocError>
     requires some { 0 < item }
     requires within { item ≤ length problem.now.names }
-    ensures { AddsLine result text.old text.new (list_line problem.now listed item options.now) }
+    ensures { AddsLine result text.old text.new
+        (list_words problem.now.names listed (item, options.now)) }
 {
     text.extend_from_slice(listed.word().as_bytes())?;
     write_word(text, problem.name(item))?;
@@ -123,7 +126,8 @@ pub fn write_lists(
     rows: &[(u32, Vec<u32>)],
 ) -> Result<(), AllocError>
     requires { are_of_items problem.now (row_values rows.now) ≡ true }
-    ensures { AddsLines result text.old text.new (list_lines problem.now listed rows.now) }
+    ensures { AddsLines result text.old text.new
+        (map (list_words problem.now.names listed) (row_values rows.now)) }
 {
     for row in rows {
         write_list(text, problem, listed, row.0, &row.1)?;

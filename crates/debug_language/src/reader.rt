@@ -1,16 +1,18 @@
 //! The reader of command lines.
-ghost use Rattle.std.specs.Prelude.{◌≡◌, true, is_ok, IfOk, IfErr, OnErr};
+ghost use Rattle.std.specs.Prelude.{◌≡◌, ◌∷◌, true, is_ok, option_map, IfOk, IfErr, OnErr};
 ghost use Rattle.std.specs.Result.{result_ok};
 ghost use Rattle.text_lines.specs.Lines.{words_of};
 ghost use Rattle.x_steps.specs.StateView.{state_value};
 ghost use Rattle.x_snapshot.specs.Reader.{state_from};
 ghost use Rattle.debug_language.specs.Reader as spec;
-ghost use Rattle.debug_language.specs.Reader.{command_from, IsNoCommand, Asks, FindsAs, FailsOnly, IsCommand};
+ghost use Rattle.debug_language.specs.Command as value;
+ghost use Rattle.debug_language.specs.Reader.{command_from, IsNoCommand, Asks, FindsAs, FailsOnly, IsCommand, AsksFor, IsNoLine};
 
 mod numbers;
 mod plain;
 
 use crate::command::Command;
+use crate::engine::{EngineCommand, engine_command};
 use crate::fault::DebugFault;
 use cover_problem::Problem;
 pub use numbers::{count_from, is_word, number_from};
@@ -21,12 +23,21 @@ use text_lines::{Refusal, has_words, split_word, without_return};
 use x_snapshot::{is_state, state_from};
 use x_steps::State;
 
+/// What a line asks for.
+#[derive(Debug, Drop)]
+pub enum LineCommand {
+    /// A command that the engine does.
+    Engine(EngineCommand),
+    /// A command of a session.
+    Session(Command),
+}
+
 /// What words say, or None; and no memory for it.
 pub type Found<T> = Result<Option<T>, AllocError>;
 
 /// The branch to take, as the words say.
 fn enter_from(alloc: Global, words: &[u8]) -> Found<Command>
-    ensures said { Asks result (spec.enter_from (words_of words.now)) }
+    ensures said { Asks result (option_map value.Enter (spec.cut_from (words_of words.now))) }
     ensures memory { FailsOnly result (spec.cut_from (words_of words.now)) }
 {
     match cut_from(alloc, words)? {
@@ -37,7 +48,7 @@ fn enter_from(alloc: Global, words: &[u8]) -> Found<Command>
 
 /// The branch to hold, as the words say.
 fn hold_from(alloc: Global, words: &[u8]) -> Found<Command>
-    ensures said { Asks result (spec.hold_from (words_of words.now)) }
+    ensures said { Asks result (option_map value.Hold (spec.cut_from (words_of words.now))) }
     ensures memory { FailsOnly result (spec.cut_from (words_of words.now)) }
 {
     match cut_from(alloc, words)? {
@@ -103,24 +114,46 @@ fn long_command(alloc: Global, problem: &Problem, key: &[u8], words: &[u8]) -> F
     }
 }
 
-/// The command of these words.
+/// The command of a session by its first word and the others.
 #[tactic(auto, unfolding(crate::specs::Reader::command_from))]
-fn command_from(alloc: Global, problem: &Problem, words: &[u8]) -> Found<Command>
-    ensures said { Asks result (command_from problem.now (words_of words.now)) }
-    ensures memory { FailsOnly result (command_from problem.now (words_of words.now)) }
+fn command_from(alloc: Global, problem: &Problem, key: &[u8], words: &[u8]) -> Found<Command>
+    ensures said { Asks result (command_from problem.now (key.now ∷ words_of words.now)) }
+    ensures memory { FailsOnly result (command_from problem.now (key.now ∷ words_of words.now)) }
 {
-    let Some((key, rest)) = split_word(words) else {
-        return Ok(Some(Command::Nothing));
-    };
     // A word that stands alone may be another command than with words: `step` is one step.
-    if !has_words(rest) {
+    if !has_words(words) {
         return Ok(lone_command(key));
     }
-    long_command(alloc, problem, key, rest)
+    long_command(alloc, problem, key, words)
 }
 
-/// Reads a command line: the command that it is, over the problem whose levels, options and items it may name. Refused as a
-/// BadCommand exactly where it is none, whatever its bytes are; where it is one, when out of memory.
+/// Reads a line: what it asks of the engine, or of a session over the problem whose levels, options and items it may name. Refused as a
+/// BadCommand exactly where it asks for neither, whatever its bytes are; where it asks for something, when out of memory.
+#[tactic(auto, unfolding(crate::specs::Reader::engine_from, crate::specs::Reader::command_from))]
+pub fn read_line(
+    alloc: Global,
+    problem: &Problem,
+    line: &[u8],
+) -> Result<LineCommand, Refusal<DebugFault>>
+    ensures read { IfOk result (λ asked. AsksFor problem.now line.now asked) }
+    ensures refused { IfErr result (λ refusal. IsNoLine problem.now line.now refusal) }
+{
+    // A line of a DOS text ends in a return, which is no part of its last word.
+    let Some((key, words)) = split_word(without_return(line)) else {
+        return Ok(LineCommand::Session(Command::Nothing));
+    };
+    if let Some(command) = engine_command(key, words) {
+        return Ok(LineCommand::Engine(command));
+    }
+    match command_from(alloc, problem, key, words)? {
+        Some(command) => Ok(LineCommand::Session(command)),
+        // The line as a whole is refused: which of its words is wrong isn't told.
+        None => Err(Refusal::Fault(DebugFault::BadCommand)),
+    }
+}
+
+/// Reads a line of a session: the command that it is. Refused as a BadCommand exactly where it is none, also where the engine does what
+/// it asks; where it is one, when out of memory.
 pub fn read_command(
     alloc: Global,
     problem: &Problem,
@@ -129,10 +162,9 @@ pub fn read_command(
     ensures read { IfOk result (λ command. IsCommand problem.now line.now command) }
     ensures refused { IfErr result (λ refusal. IsNoCommand problem.now line.now refusal) }
 {
-    // A line of a DOS text ends in a return, which is no part of its last word.
-    match command_from(alloc, problem, without_return(line))? {
-        Some(command) => Ok(command),
-        // The line as a whole is refused: which of its words is wrong isn't told.
-        None => Err(Refusal::Fault(DebugFault::BadCommand)),
+    match read_line(alloc, problem, line) {
+        Ok(LineCommand::Session(command)) => Ok(command),
+        Ok(LineCommand::Engine(_)) => Err(Refusal::Fault(DebugFault::BadCommand)),
+        Err(refusal) => Err(refusal),
     }
 }

@@ -1,6 +1,9 @@
 //! The line of a refused command.
+ghost use Rattle.std.specs.Prelude.{◌≡◌, true, is_some, OnOk};
 ghost use Rattle.text_lines.specs.Writes.{AddsLine};
-ghost use Rattle.debug_language.specs.Replies.{refused_words, AddsDebugRefusal, AddsRunnerRefusal, AddsSnapshotRefusal};
+ghost use Rattle.x_branches.specs.Faults as runner;
+ghost use Rattle.x_snapshot.specs.Faults as snapshot;
+ghost use Rattle.debug_language.specs.Replies.{refused_words, debug_refusal, runner_refusal, snapshot_refusal};
 
 use crate::fault::DebugFault;
 use crate::words::Layer;
@@ -28,14 +31,15 @@ pub fn write_refused(
 
 /// Writes the line of a refusal by the debugger itself.
 pub fn write_debug_fault(text: &mut Vec<u8>, fault: DebugFault) -> Result<(), AllocError>
-    ensures { AddsDebugRefusal result text.old text.new fault }
+    ensures { AddsLine result text.old text.new (debug_refusal fault) }
 {
     write_refused(text, Layer::Debug, fault.number(), fault.name())
 }
 
 /// Writes the line of a refusal by a runner. Out of memory has none, and is passed on.
 pub fn write_runner_fault(text: &mut Vec<u8>, fault: RunnerFault) -> Result<(), AllocError>
-    ensures { AddsRunnerRefusal result text.old text.new fault }
+    ensures line { AddsLine result text.old text.new (runner_refusal fault) }
+    ensures numbered { OnOk result (is_some (runner.number_of fault) ≡ true) }
 {
     match fault.number() {
         Some(number) => write_refused(text, Layer::Runner, number, fault.name()),
@@ -46,7 +50,8 @@ pub fn write_runner_fault(text: &mut Vec<u8>, fault: RunnerFault) -> Result<(), 
 
 /// Writes the line of a refusal of a snapshot. Out of memory has none, and is passed on.
 pub fn write_snapshot_fault(text: &mut Vec<u8>, fault: SnapshotFault) -> Result<(), AllocError>
-    ensures { AddsSnapshotRefusal result text.old text.new fault }
+    ensures line { AddsLine result text.old text.new (snapshot_refusal fault) }
+    ensures numbered { OnOk result (is_some (snapshot.number_of fault) ≡ true) }
 {
     match fault.number() {
         Some(number) => write_refused(text, Layer::Snapshot, number, fault.name()),

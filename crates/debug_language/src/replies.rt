@@ -1,10 +1,10 @@
 //! The lines of replies.
-ghost use Rattle.std.specs.Prelude.{◌≡◌, ◌∷◌, [], true, decimal, codes};
+ghost use Rattle.std.specs.Prelude.{◌≡◌, true, codes};
 ghost use Rattle.text_lines.specs.Writes.{AddsLine};
 ghost use Rattle.x_steps.specs.StateView.{state_value};
 ghost use Rattle.x_texts.specs.Breaks.{is_break};
-ghost use Rattle.x_texts.specs.Words.{state_words, keyed_point, break_words};
-ghost use Rattle.debug_language.specs.Replies.{plain_word, counted_word};
+ghost use Rattle.x_texts.specs.Words.{keyed_point, break_words};
+ghost use Rattle.debug_language.specs.Replies as spec;
 
 use crate::words::{Counted, Plain};
 use cover_problem::Problem;
@@ -15,7 +15,7 @@ use x_texts::{Break, write_break, write_state};
 
 /// Writes a line that is always the same.
 pub fn write_plain(text: &mut Vec<u8>, plain: Plain) -> Result<(), AllocError>
-    ensures { AddsLine result text.old text.new (plain_word plain ∷ []) }
+    ensures { AddsLine result text.old text.new (spec.plain plain) }
 {
     text.extend_from_slice(plain.word().as_bytes())?;
     text.push(b'\n')?;
@@ -24,7 +24,7 @@ pub fn write_plain(text: &mut Vec<u8>, plain: Plain) -> Result<(), AllocError>
 
 /// Writes the line of a count.
 pub fn write_counted(text: &mut Vec<u8>, counted: Counted, count: u128) -> Result<(), AllocError>
-    ensures { AddsLine result text.old text.new (counted_word counted ∷ decimal count ∷ []) }
+    ensures { AddsLine result text.old text.new (spec.counted counted count) }
 {
     // The counts of all posted stretches are added up, and have 128 bits for it.
     write_number_line(text, counted.word(), count)
@@ -32,7 +32,7 @@ pub fn write_counted(text: &mut Vec<u8>, counted: Counted, count: u128) -> Resul
 
 /// Writes where the search stands: its label, its cursor and its choices.
 pub fn write_at(text: &mut Vec<u8>, state: &State) -> Result<(), AllocError>
-    ensures { AddsLine result text.old text.new (codes "at" ∷ state_words (state_value state.now)) }
+    ensures { AddsLine result text.old text.new (spec.state_line (state_value state.now)) }
 {
     write_state(text, "at", state)
 }

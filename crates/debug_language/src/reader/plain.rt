@@ -1,6 +1,9 @@
 //! Commands without a cut.
-ghost use Rattle.std.specs.Prelude.{◌≡◌};
+ghost use Rattle.std.specs.Prelude.{◌≡◌, option_map};
 ghost use Rattle.text_lines.specs.Lines.{words_of};
+ghost use Rattle.x_snapshot.specs.Reader.{break_from};
+ghost use Rattle.debug_language.specs.Command as value;
+ghost use Rattle.debug_language.specs.Question.{question_of};
 ghost use Rattle.debug_language.specs.Reader as spec;
 ghost use Rattle.debug_language.specs.Reader.{asked};
 
@@ -12,7 +15,7 @@ use x_snapshot::{break_from, only_word};
 
 /// The question that a word asks.
 fn ask_from(key: &[u8]) -> Option<Command>
-    ensures { asked result ≡ spec.ask_from key.now }
+    ensures { asked result ≡ option_map value.Ask (question_of key.now) }
 {
     let question = Question::of_word(key)?;
     Some(Command::Ask(question))
@@ -48,7 +51,7 @@ pub fn lone_command(key: &[u8]) -> Option<Command>
 
 /// Steps, as many as the words say.
 fn step_from(words: &[u8]) -> Option<Command>
-    ensures { asked result ≡ spec.steps_from (words_of words.now) }
+    ensures { asked result ≡ option_map value.Step (spec.count_from (words_of words.now)) }
 {
     let count = count_from(words)?;
     Some(Command::Step(count))
@@ -56,7 +59,7 @@ fn step_from(words: &[u8]) -> Option<Command>
 
 /// Steps back, as many as the words say.
 fn back_from(words: &[u8]) -> Option<Command>
-    ensures { asked result ≡ spec.back_from (words_of words.now) }
+    ensures { asked result ≡ option_map value.Back (spec.count_from (words_of words.now)) }
 {
     let count = count_from(words)?;
     Some(Command::Back(count))
@@ -64,7 +67,8 @@ fn back_from(words: &[u8]) -> Option<Command>
 
 /// The breakpoint that the words say.
 fn set_from(problem: &Problem, words: &[u8]) -> Option<Command>
-    ensures { asked result ≡ spec.set_from problem.now (words_of words.now) }
+    ensures { asked result ≡ option_map value.SetBreak
+        (break_from problem.now (words_of words.now)) }
 {
     let breakpoint = break_from(problem, words)?;
     Some(Command::Break(breakpoint))

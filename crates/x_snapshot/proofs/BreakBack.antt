@@ -27,7 +27,7 @@ use Rattle.x_snapshot.proofs.BackLemmas.{some_is, none_some, found_is, map_is, o
 -- *one breakpoint*
 
 -- the words of the breakpoint, which can be met
-abbrev SaysBreak : ProblemValue → List (List ℕ) → Break → Type 0
+abbrev pub SaysBreak : ProblemValue → List (List ℕ) → Break → Type 0
 SaysBreak p words b = (codes "break" ∷ words ≡ break_words p.names b) × (is_break p b ≡ true)
 
 kind_word : Kind → List ℕ
@@ -105,7 +105,7 @@ module _ (p : ProblemValue) (g : IsProblem p) where
           subst (SaysBreak p (kind ∷ [])) (some_is breakpoints.Visit b q.1) here
       by (inr q) = absurd (none_some b q.1)
 
-  break_back : (words : List (List ℕ)) (b : Break) → break_from p words ≡ Some b → SaysBreak p words b
+  pub break_back : (words : List (List ℕ)) (b : Break) → break_from p words ≡ Some b → SaysBreak p words b
   unfolding break_from
   break_back [] b h = absurd (none_some b h)
   break_back (kind ∷ []) b h = lone_back kind b h

@@ -1,6 +1,7 @@
--- Two alike books, each with worker 0's seat, and the same runner in both or none: an act of that worker by its own lease, or of its runner, leaves
--- them alike, and is told alike.
-use Rattle.std.proofs.Common.{◌≡◌, ℕ, ◌==◌, Bool, true, false, cond, Option, Some, None, [], ◌∷◌, refl, sym, ap, ◌∙◌, subst}
+-- Two alike books, each with worker 0's seat, and the same runner in both or none: acts of that worker by its own lease, or of its runner,
+-- leave them alike, and are told alike; and a walk is the same acts in both.
+use Rattle.std.proofs.Common.{◌≡◌, ℕ, ◌==◌, Bool, true, false, cond, Option, Some, None, [], ◌∷◌, refl, sym, ap, ◌∙◌, subst, zero, suc, nat_lt, List}
+use Rattle.std.proofs.Common.{◌++◌, replicate}
 use Rattle.std.proofs.lemmas.Bool.{false≢true}
 use Rattle.shared_words.specs.Lists.{has}
 use Rattle.cover_problem.specs.Problem.{is_same}
@@ -21,22 +22,25 @@ use Rattle.lab_book.specs.Tile.{is_closed}
 use Rattle.lab_book.specs.Tiling.{tile_at}
 use Rattle.lab_book.specs.Book.{BookValue, outcome, book_step}
 use Rattle.lab_world.specs.declared.event.Act.{Act}
-use Rattle.lab_world.specs.declared.event.Act.TheVariants.{Step, Back, Lease, LeaseAny, TakeHeld, Post, Split, Retract, Park, Abandon}
-use Rattle.lab_world.specs.declared.event.Act.TheVariants.{Close, PutBack, RequestStop}
+use Rattle.lab_world.specs.declared.event.Act.TheVariants.{Step, Back, Lease, LeaseAny, TakeHeld, Post, Split, Retract, Park, Abandon, Close, PutBack}
+use Rattle.lab_world.specs.declared.event.Act.TheVariants.{RequestStop}
 use Rattle.lab_world.specs.Worker.{WorkerValue, unposted, split_call, after_post, after_split, after_retract, after_end}
-use Rattle.lab_world.specs.World.{Turn, turn_of, called, stepped, stepped_back, cut_refusal}
+use Rattle.lab_world.specs.World.{Turn, turn_of, called, stepped, stepped_back, cut_refusal, WorldValue, worker_at, played}
 use Rattle.lab_world.proofs.HoldLemmas.{own_lease}
 use Rattle.lab_book_laws.specs.AlikeBooks.{AreAlikeBooks}
 use Rattle.lab_book_laws.specs.AlikeCalls.{Correspond, NameSameTile, addressed, anonymous_reply, AreAlikeOutcomes}
 use Rattle.lab_book_laws.proofs.PlaceLemmas.{cut_corresponds}
 use Rattle.lab_book_laws.proofs.CallLemmas.{call_alike}
-use Rattle.debug_acts.specs.Lines.{runner_refusal}
+use Rattle.debug_language.specs.Replies.{runner_refusal}
 use Rattle.debug_acts.specs.declared.answer.Told.{Told}
 use Rattle.debug_acts.specs.declared.answer.Told.TheVariants as told
 use Rattle.debug_acts.specs.Answer.{turn_lines}
 use Rattle.x_debug.specs.Questions.{runner_of}
-use Rattle.debug_laws.proofs.TurnLemmas.{IsSoundSeat}
-use Rattle.debug_laws.proofs.ToldLemmas.{same_runner, told_alike, IsOfWorker, done_seen}
+use Rattle.debug_laws.proofs.TurnLemmas.{IsSoundSeat, turn_sound}
+use Rattle.debug_laws.proofs.ToldLemmas.{same_runner, told_alike, IsOfWorker, done_seen, seen_alike}
+use Rattle.lab_world.specs.Alone.{alone, own_events}
+use Rattle.debug_acts.specs.Acts.{has_rest, is_ended, step_acts, walk_acts}
+use Rattle.debug_acts.specs.Walk.{steps_ahead}
 
 -- alike calls leave alike books
 pub step_alike : (a b : BookValue) (v w : ℕ) (c d : Call) → AreAlikeBooks a b → AreAlikeOutcomes a b (outcome a v c) (outcome b w d)
@@ -224,3 +228,62 @@ turn_alike b c (Some v) (Some w) Abandon own h i k =
 turn_alike b c (Some v) (Some w) Close own h i k =
     end_told b c k.book v w (same_runner v w k.runner) h i (call.Close v.grant) (call.Close w.grant) (call.Close v.grant) refl refl
 turn_alike b c (Some v) (Some w) _ own h i k = absurd (false≢true own)
+
+-- each is the worker's own
+abbrev pub AreOwn : List Act → Type 0
+AreOwn [] = Unit {0}
+AreOwn (a ∷ acts) = (is_own a ≡ true) × AreOwn acts
+
+pub acts_alike : (acts : List Act) (b c : BookValue) (x y : Option WorkerValue) → AreOwn acts → IsSoundSeat b x → IsSoundSeat c y
+    → AreAlikeSeats b x c y
+    → let v = played (alone b x) (own_events acts) in
+    let w = played (alone c y) (own_events acts) in
+    AreAlikeSeats v.book (worker_at v.workers 0) w.book (worker_at w.workers 0)
+acts_alike [] b c x y own h i k = k
+acts_alike (a ∷ acts) b c x y own h i k =
+    acts_alike acts (turn_of b x 0 a).book (turn_of c y 0 a).book (turn_of b x 0 a).worker (turn_of c y 0 a).worker own.1 (turn_sound b x a h)
+    (turn_sound c y a i) (turn_alike b c x y a own.0 h i k)
+
+pub own_both : (xs ys : List Act) → AreOwn xs → AreOwn ys → AreOwn (xs ++ ys)
+own_both [] ys p q = q
+own_both (x ∷ xs) ys p q = (p.0, own_both xs ys p.1 q)
+
+pub own_times : (n : ℕ) (a : Act) → is_own a ≡ true → AreOwn (replicate n a)
+own_times zero a e = tt
+own_times (suc n) a e = (e, own_times n a e)
+
+-- ---- a walk
+
+pub rest_seen : (x y : Option WorkerValue) → runner_of x ≡ runner_of y → has_rest x ≡ has_rest y
+rest_seen = seen_alike has_rest false (λ r. nat_lt 0 (unposted_steps r)) refl (λ w. refl)
+
+pub end_is_seen : (x y : Option WorkerValue) → runner_of x ≡ runner_of y → is_ended x ≡ is_ended y
+end_is_seen = seen_alike is_ended false (λ r. steps_ahead r == 0) refl (λ w. refl)
+
+step_seen : (x y : Option WorkerValue) → runner_of x ≡ runner_of y → step_acts x ≡ step_acts y
+step_seen = seen_alike step_acts [] (λ r. cond (unposted_steps r == most_steps) (Post ∷ []) [] ++ Step ∷ []) refl (λ w. refl)
+
+step_own : (x : Option WorkerValue) → AreOwn (step_acts x)
+step_own None = tt
+step_own (Some w) = by (unposted_steps w.runner == most_steps)
+  where
+    by : (v : Bool) → AreOwn (cond v (Post ∷ []) [] ++ Step ∷ [])
+    by true = (refl, (refl, tt))
+    by false = (refl, tt)
+
+-- a walk is the same acts in both
+pub walk_own : (n : ℕ) (v : WorldValue) → AreOwn (walk_acts n v)
+walk_own zero v = tt
+walk_own (suc n) v = own_both (walk_acts n v) (step_acts (worker_at (played v (own_events (walk_acts n v))).workers 0)) (walk_own n v)
+    (step_own (worker_at (played v (own_events (walk_acts n v))).workers 0))
+
+pub walk_alike : (n : ℕ) (b c : BookValue) (x y : Option WorkerValue) → IsSoundSeat b x → IsSoundSeat c y → AreAlikeSeats b x c y
+    → walk_acts n (alone b x) ≡ walk_acts n (alone c y)
+walk_alike zero b c x y h i k = refl
+walk_alike (suc n) b c x y h i k =
+    let same = walk_alike n b c x y h i k in
+    let there = acts_alike (walk_acts n (alone b x)) b c x y (walk_own n (alone b x)) h i k in
+    let after = step_seen (worker_at (played (alone b x) (own_events (walk_acts n (alone b x)))).workers 0)
+    (worker_at (played (alone c y) (own_events (walk_acts n (alone b x)))).workers 0) there.runner in
+    (λ j. walk_acts n (alone b x) ++ after j)
+    ∙ (λ j. same j ++ step_acts (worker_at (played (alone c y) (own_events (same j))).workers 0))

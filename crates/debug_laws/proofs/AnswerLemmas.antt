@@ -1,6 +1,6 @@
 -- Seated sessions that are alike answer each command, each line and each text that is loaded with the same text, and stay alike; and so do
 -- sound ones, and stay sound.
-use Rattle.std.proofs.Common.{◌≡◌, ℕ, ◌<◌, Bool, true, false, cond, Option, Some, None, Result, Ok, Err, List, [], ◌∷◌, ◌++◌, replicate, map, length, refl, sym, ap, ◌∙◌, subst, arith}
+use Rattle.std.proofs.Common.{codes, ◌≡◌, ℕ, ◌<◌, Bool, true, false, cond, Option, Some, None, Result, Ok, Err, List, [], ◌∷◌, ◌++◌, replicate, map, length, refl, sym, ap, ◌∙◌, subst, arith}
 use Rattle.text_lines.specs.Writing.{line_text, text_of}
 use Rattle.cover_problem.specs.Problem.{ProblemValue, is_same}
 use Rattle.x_steps.specs.StateValue.{StateValue}
@@ -26,21 +26,23 @@ use Rattle.debug_language.specs.Command as command
 use Rattle.debug_language.specs.Reader.{command_of}
 use Rattle.debug_language.specs.declared.words.Counted.TheVariants as counts
 use Rattle.debug_language.specs.declared.words.Plain.TheVariants.{Closed}
-use Rattle.debug_language.specs.Replies.{saved_text}
+use Rattle.debug_language.specs.Replies.{saved_text, plain, counted, state_line, debug_refusal, snapshot_refusal}
 use Rattle.debug_language.specs.declared.fault.DebugFault.TheVariants.{BadCommand, NoBranch}
 use Rattle.debug_acts.specs.Breakpoints.{with_break}
-use Rattle.debug_acts.specs.Lines.{plain, counted, set, state_line, debug_refusal, book_refusal, snapshot_refusal}
+use Rattle.x_texts.specs.Words.{keyed_point}
 use Rattle.debug_acts.specs.Tiles.{tile_line, place_at}
 use Rattle.debug_acts.specs.Walk.{step_count, run_count, run_lines, back_count, back_lines}
 use Rattle.debug_acts.specs.declared.answer.Told.{Told}
 use Rattle.debug_acts.specs.declared.answer.Told.TheVariants as told
 use Rattle.debug_acts.specs.Acts.{has_rest, rest_acts, end_acts, is_ended, close_acts, enter_act, walk_acts}
-use Rattle.debug_acts.specs.Ends.{save_text, close_line}
+use Rattle.debug_acts.specs.Answer.{save_text, close_line, book_refusal}
 use Rattle.x_debug.specs.Session.{SessionValue}
 use Rattle.x_debug.specs.Questions.{View, runner_of, view_of, question_lines}
-use Rattle.x_debug.specs.Commands.{Answer, Deed, world_of, left_by, says, with_breaks, does, ends, asks, if_open, walks, at_place, back_deed, split_deed, close_deed, enter_deed, retract_deed, hold_deed, put_back_deed, deed_of, done_by, deed_if, answer, answer_line}
-use Rattle.debug_laws.proofs.ToldLemmas.{told_alike, done_seen, stop_length, back_length, tile_shown}
-use Rattle.debug_laws.proofs.SeatLemmas.{AreOwn, acts_alike, own_both, own_times, walk_own, walk_alike, rest_seen, end_is_seen}
+use Rattle.x_debug.specs.Commands.{Answer, Deed, world_of, left_by, says, with_breaks, does, ends, asks, if_open, walks, at_place, back_deed, split_deed, close_deed, enter_deed, hold_deed, put_back_deed, deed_of, done_by, deed_if, answer, answer_line}
+use Rattle.debug_laws.proofs.ToldLemmas.{told_alike, done_seen, stop_length, back_length, tile_shown, lines_seen, same_line, place_meet, naming}
+use Rattle.debug_laws.proofs.ToldLemmas.{names_same, runner_seen, both_open}
+use Rattle.debug_laws.proofs.AlikeLemmas.{AreOwn, acts_alike, own_both, own_times, walk_own, walk_alike, rest_seen, end_is_seen, AreAlikeSeats}
+use Rattle.debug_laws.proofs.AlikeLemmas.{AlikeTold, is_own, step_alike, split_told, retract_told}
 use Rattle.x_debug.specs.LoadedTexts.{answers, load_by, load_answer, loaded, breaks_of}
 use Rattle.lab_book_laws.specs.AlikeBooks.{AreAlikeBooks, open_tiles}
 use Rattle.lab_book_laws.specs.AlikeCalls.{Correspond, addressed, AreAlikeOutcomes}
@@ -48,13 +50,12 @@ use Rattle.lab_book_laws.proofs.StatusLemmas.{held_seen}
 use Rattle.lab_book_laws.proofs.ToldLemmas.{visits_alike, steps_alike, levels_alike}
 use Rattle.lab_book_laws.proofs.PlaceLemmas.{Meet}
 use Rattle.lab_book_laws.proofs.CallLemmas.{call_alike}
-use Rattle.debug_laws.specs.AlikeSessions.{AreAlikeSessions, IsSoundSession, AreSeatedAlike, AreSoundAlike, AreSeatedAnswers, AreAlikeAnswers}
-use Rattle.debug_laws.proofs.SoundLemmas.{seat_of, seat_at, answer_seated, line_seated, load_seated, answer_sound, line_sound, load_sound}
-use Rattle.debug_laws.proofs.AlikeLemmas.{AreAlikeSeats, AlikeTold, is_own, step_alike, split_told, retract_told}
-use Rattle.debug_laws.proofs.TileLemmas.{lines_seen, same_line, place_meet, naming, names_same, runner_seen, both_open}
+use Rattle.debug_laws.specs.AlikeSessions.{AreAlikeSessions, IsSeatedSession, IsSoundSession, AreSeatedAlike, AreSoundAlike, AreAnswersAlike}
+use Rattle.debug_laws.specs.AlikeSessions.{AnswerKeeps, AgreeOn}
+use Rattle.debug_laws.proofs.SoundLemmas.{seat_of, seat_at, line_sound, load_sound}
 
 -- the same text, and alike sessions that are left
-record Agree (x y : Answer) : Type 0 where
+pub record Agree (x y : Answer) : Type 0 where
   pub text : x.text ≡ y.text
   pub session : AreAlikeSessions x.session y.session
 
@@ -106,7 +107,7 @@ module _ (a b : SessionValue) (p : AreSeatedAlike a b) where
   -- the worker's own acts are done
   acts_agree : (d e : Deed) → d.text ≡ e.text → d.acts ≡ e.acts → AreOwn d.acts → d.breaks ≡ e.breaks → Agree (done_by a d) (done_by b e)
   acts_agree d e text same own breaks =
-      let there = acts_alike d.acts a.book b.book a.worker b.worker own (seat_of a p.seated) (seat_of b p.also_seated) seats in
+      let there = acts_alike d.acts a.book b.book a.worker b.worker own (seat_of a p.one) (seat_of b p.other) seats in
       record {
         text = text;
         session = subst (λ (acts : List Act). AreAlikeSessions (record (left_by a d.acts) { breaks = d.breaks })
@@ -129,9 +130,9 @@ module _ (a b : SessionValue) (p : AreSeatedAlike a b) where
   same_view =
       let runner = k.runner in
       let branches = sym (lines_seen (open_tiles a.book.tiles)) ∙ ap (map tile_line) k.book.tiles ∙ lines_seen (open_tiles b.book.tiles) in
-      let visits = visits_alike a.book b.book p.seated.tiling p.also_seated.tiling k.book in
-      let steps = steps_alike a.book b.book p.seated.tiling p.also_seated.tiling k.book in
-      let levels = levels_alike a.book b.book p.seated.tiling p.also_seated.tiling k.book in
+      let visits = visits_alike a.book b.book p.one.tiling p.other.tiling k.book in
+      let steps = steps_alike a.book b.book p.one.tiling p.other.tiling k.book in
+      let levels = levels_alike a.book b.book p.one.tiling p.other.tiling k.book in
       cc
 
   -- ---- steps
@@ -144,7 +145,7 @@ module _ (a b : SessionValue) (p : AreSeatedAlike a b) where
       open_agree _ _ (λ v w d e q.
       acts_agree (walks a (lines v.runner) (count v.runner)) (walks b (more w.runner) (also w.runner))
       (ap text_of (ap lines q ∙ l w.runner))
-      (walk_alike (count v.runner) a.book b.book a.worker b.worker (seat_of a p.seated) (seat_of b p.also_seated) seats
+      (walk_alike (count v.runner) a.book b.book a.worker b.worker (seat_of a p.one) (seat_of b p.other) seats
       ∙ ap (λ (n : ℕ). walk_acts n (world_of b)) (ap count q ∙ c w.runner))
       (walk_own (count v.runner) (world_of a)) k.breaks)
 
@@ -201,14 +202,14 @@ module _ (a b : SessionValue) (p : AreSeatedAlike a b) where
       asks_agree a b (Split level o) (Split level o) (told.Parted v.runner.branch) (told.Parted w.runner.branch) k.breaks
       (subst (λ (x : Option WorkerValue × Option WorkerValue). AlikeTold (told.Parted v.runner.branch) (told.Parted w.runner.branch)
       (turn_of a.book x.0 0 (Split level o)) (turn_of b.book x.1 0 (Split level o))) (λ j. (sym d j, sym e j))
-      (split_told a.book b.book k.book v w q (seat_at a p.seated v d) (seat_at b p.also_seated w e) level o)))
+      (split_told a.book b.book k.book v w q (seat_at a p.one v d) (seat_at b p.other w e) level o)))
 
-  retract_agrees : Agree (done_by a (retract_deed a)) (done_by b (retract_deed b))
+  retract_agrees : Agree (done_by a (asks a Retract told.Retracted)) (done_by b (asks b Retract told.Retracted))
   retract_agrees =
       asks_agree a b Retract Retract told.Retracted told.Retracted k.breaks
       (both_open a.worker b.worker k.runner (λ x y. AlikeTold told.Retracted told.Retracted (turn_of a.book x 0 Retract) (turn_of b.book y 0 Retract))
       (idle_told a.book b.book k.book)
-      (λ v w d e q. retract_told a.book b.book k.book v w q (seat_at a p.seated v d) (seat_at b p.also_seated w e)))
+      (λ v w d e q. retract_told a.book b.book k.book v w q (seat_at a p.one v d) (seat_at b p.other w e)))
 
   -- ---- `hold` and `putback`
 
@@ -216,7 +217,7 @@ module _ (a b : SessionValue) (p : AreSeatedAlike a b) where
   module _ (i j : ℕ) (q : Correspond a.book.tiles i b.book.tiles j) where
     named_alike : (c : Call) → AreAlikeOutcomes a.book b.book (outcome a.book 0 (addressed (naming (tile_at a.book.tiles i)) c))
         (outcome b.book 0 (addressed (naming (tile_at b.book.tiles j)) c))
-    named_alike c = (call_alike a.book b.book k.book p.seated.tiling p.also_seated.tiling 0 0 i j (naming (tile_at a.book.tiles i))
+    named_alike c = (call_alike a.book b.book k.book p.one.tiling p.other.tiling 0 0 i j (naming (tile_at a.book.tiles i))
         (naming (tile_at b.book.tiles j)) (names_same a.book b.book i j q) c).0
 
     named_line : (c : Call)
@@ -224,7 +225,7 @@ module _ (a b : SessionValue) (p : AreSeatedAlike a b) where
         ≡ tile_line (tile_at (outcome b.book 0 (addressed (naming (tile_at b.book.tiles j)) c)).tiles j)
     named_line c = same_line (tile_at (outcome a.book 0 (addressed (naming (tile_at a.book.tiles i)) c)).tiles i)
         (tile_at (outcome b.book 0 (addressed (naming (tile_at b.book.tiles j)) c)).tiles j)
-        (call_alike a.book b.book k.book p.seated.tiling p.also_seated.tiling 0 0 i j (naming (tile_at a.book.tiles i))
+        (call_alike a.book b.book k.book p.one.tiling p.other.tiling 0 0 i j (naming (tile_at a.book.tiles i))
         (naming (tile_at b.book.tiles j)) (names_same a.book b.book i j q) c).1
 
   -- the tile that a cut names is asked for something; the call is made of the id alone
@@ -322,7 +323,7 @@ module _ (a b : SessionValue) (p : AreSeatedAlike a b) where
 
   -- ---- each command
 
-  deeds_agree : (c : CommandValue) → Agree (done_by a (deed_of a c)) (done_by b (deed_of b c))
+  pub deeds_agree : (c : CommandValue) → Agree (done_by a (deed_of a c)) (done_by b (deed_of b c))
   unfolding deed_of
   deeds_agree command.Nothing = says_agree [] [] refl
   deeds_agree (command.Step n) = walk_agrees _ _ (λ r. step_count r n) (λ r. step_count r n) (λ r. refl) (λ r. refl)
@@ -331,7 +332,7 @@ module _ (a b : SessionValue) (p : AreSeatedAlike a b) where
       (λ r. ap (λ (bs : List Break). run_lines bs r) k.breaks) (λ r. ap (λ (bs : List Break). run_count bs r) k.breaks)
   deeds_agree (command.Back n) = back_agrees n
   deeds_agree (command.SetBreak c) = breaks_agree _ _ _ _ (ap (λ (bs : List Break). with_break bs c) k.breaks)
-      (ap (λ (q : ProblemValue). set q.names c ∷ []) k.book.problem)
+      (ap (λ (q : ProblemValue). keyed_point (codes "set") q c ∷ []) k.book.problem)
   deeds_agree command.Clear = breaks_agree _ _ _ _ refl (ap (λ (bs : List Break). counted counts.Cleared (length bs) ∷ []) k.breaks)
   deeds_agree (command.Ask question) = says_agree _ _ (ap (λ (v : View). question_lines v question) same_view)
   deeds_agree (command.Split level option) = split_agrees level option
@@ -344,24 +345,12 @@ module _ (a b : SessionValue) (p : AreSeatedAlike a b) where
   deeds_agree (command.Hold lo) = hold_agrees lo
   deeds_agree (command.PutBack lo state) = put_back_agrees lo state
 
-  pub answer_seated_alike : (c : CommandValue) → AreSeatedAnswers (answer a c) (answer b c)
-  answer_seated_alike c =
-      let q = deeds_agree c in
-      record {
-        text = q.text;
-        sessions = record { seated = answer_seated a p.seated c; also_seated = answer_seated b p.also_seated c; alike = q.session };
-      }
-
   -- ---- a line
 
-  pub line_seated_alike : (line : List ℕ) → AreSeatedAnswers (answer_line a line) (answer_line b line)
-  line_seated_alike line =
-      let q = subst (λ (x : ProblemValue). Agree (answer_line a line) (done_by b (deed_if b (command_of x line)))) k.book.problem
-      (by (command_of a.book.problem line)) in
-      record {
-        text = q.text;
-        sessions = record { seated = line_seated a p.seated line; also_seated = line_seated b p.also_seated line; alike = q.session };
-      }
+  pub line_agrees : (line : List ℕ) → Agree (answer_line a line) (answer_line b line)
+  line_agrees line =
+      subst (λ (x : ProblemValue). Agree (answer_line a line) (done_by b (deed_if b (command_of x line)))) k.book.problem
+      (by (command_of a.book.problem line))
     where
       by : (c : Option CommandValue) → Agree (done_by a (deed_if a c)) (done_by b (deed_if b c))
       by None = says_agree (debug_refusal BadCommand ∷ []) (debug_refusal BadCommand ∷ []) refl
@@ -395,37 +384,21 @@ module _ (a b : SessionValue) (p : AreSeatedAlike a b) where
       by true = loaded_agree v
       by false = stays_agree (book_refusal ForeignProblem)
 
-  text_agrees : (bytes : List ℕ) → Agree (load_answer a bytes) (load_answer b bytes)
+  pub text_agrees : (bytes : List ℕ) → Agree (load_answer a bytes) (load_answer b bytes)
   unfolding load_answer
   text_agrees bytes = load_agrees (snapshot_of bytes)
 
-  pub load_seated_alike : (bytes : List ℕ) → AreSeatedAnswers (load_answer a bytes) (load_answer b bytes)
-  load_seated_alike bytes =
-      let q = text_agrees bytes in
-      record {
-        text = q.text;
-        sessions = record { seated = load_seated a p.seated bytes; also_seated = load_seated b p.also_seated bytes; alike = q.session };
-      }
+-- ---- what is left of seated sessions is seated, and of sound ones, which are seated, sound
 
--- ---- sound sessions are seated, and what is left of them is sound
+module _ (Is : SessionValue → Type 0) (seated : (s : SessionValue) → Is s → IsSeatedSession s) (x : SessionValue → Answer)
+    (keeps : (s : SessionValue) → AnswerKeeps Is s (x s)) (agree : (a b : SessionValue) → AreSeatedAlike a b → Agree (x a) (x b)) where
+  pub agree_on : (a b : SessionValue) → AgreeOn Is a b x
+  agree_on a b p =
+      let q = agree a b (record { one = seated a p.one; other = seated b p.other; alike = p.alike }) in
+      record { text = q.text; sessions = record { one = keeps a p.one; other = keeps b p.other; alike = q.session } }
 
-module _ (a b : SessionValue) (p : AreSoundAlike a b) where
-  both_seated : AreSeatedAlike a b
-  both_seated = record { seated = p.sound.seated; also_seated = p.also_sound.seated; alike = p.alike }
+pub line_alike : (a b : SessionValue) → AreSoundAlike a b → (line : List ℕ) → AreAnswersAlike IsSoundSession (answer_line a line) (answer_line b line)
+line_alike a b p line = agree_on IsSoundSession (λ s h. h.seated) (λ s. answer_line s line) (λ s h. line_sound s h line) (λ s t k. line_agrees s t k line) a b p
 
-  still_sound : (x y : Answer) → AreSeatedAnswers x y → IsSoundSession x.session → IsSoundSession y.session → AreAlikeAnswers x y
-  still_sound x y q h i = record { text = q.text; sessions = record { sound = h; also_sound = i; alike = q.sessions.alike } }
-
-  pub answer_alike : (c : CommandValue) → AreAlikeAnswers (answer a c) (answer b c)
-  answer_alike c =
-      still_sound (answer a c) (answer b c) (answer_seated_alike a b both_seated c) (answer_sound a p.sound c) (answer_sound b p.also_sound c)
-
-  pub line_alike : (line : List ℕ) → AreAlikeAnswers (answer_line a line) (answer_line b line)
-  line_alike line =
-      still_sound (answer_line a line) (answer_line b line) (line_seated_alike a b both_seated line) (line_sound a p.sound line)
-      (line_sound b p.also_sound line)
-
-  pub load_alike : (bytes : List ℕ) → AreAlikeAnswers (load_answer a bytes) (load_answer b bytes)
-  load_alike bytes =
-      still_sound (load_answer a bytes) (load_answer b bytes) (load_seated_alike a b both_seated bytes) (load_sound a p.sound bytes)
-      (load_sound b p.also_sound bytes)
+pub load_alike : (a b : SessionValue) → AreSoundAlike a b → (bytes : List ℕ) → AreAnswersAlike IsSoundSession (load_answer a bytes) (load_answer b bytes)
+load_alike a b p bytes = agree_on IsSoundSession (λ s h. h.seated) (λ s. load_answer s bytes) (λ s h. load_sound s h bytes) (λ s t k. text_agrees s t k bytes) a b p

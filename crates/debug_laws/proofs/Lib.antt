@@ -1,12 +1,8 @@
-pub mod BookLemmas
-pub mod LeasedLemmas
 pub mod TurnLemmas
 pub mod BalanceLemmas
 pub mod SoundLemmas
 pub mod ToldLemmas
 pub mod AlikeLemmas
-pub mod SeatLemmas
-pub mod TileLemmas
 pub mod AnswerLemmas
 pub mod PooledLemmas
 pub mod WholeLemmas

@@ -5,18 +5,15 @@ use Rattle.lab_book.specs.Book.{BookValue, leased_in}
 use Rattle.x_debug.specs.Session.{SessionValue, session_on}
 use Rattle.lab_book_laws.specs.Searched.{searched, IsSearched}
 use Rattle.lab_book_laws.proofs.SearchedLemmas.{pool_alike, searched_tiling}
-use Rattle.debug_laws.specs.AlikeSessions.{open_branches, AreAlikeSessions, IsSeatedSession, IsSoundSession, AreSeatedAlike, AreSoundAlike}
-use Rattle.debug_laws.proofs.LeasedLemmas.{pool_counts, searched_counts}
+use Rattle.debug_laws.specs.AlikeSessions.{open_branches, AreAlikeSessions, IsSoundSession, AreBothAlike, AreSeatedAlike, AreSoundAlike}
+use Rattle.debug_laws.proofs.BalanceLemmas.{pool_counts, searched_counts}
 use Rattle.debug_laws.proofs.SoundLemmas.{on_sound}
 
 to_itself : (s : SessionValue) → AreAlikeSessions s s
 to_itself s = record { book = record { problem = refl; branch = refl; first = refl; tiles = refl }; runner = refl; breaks = refl }
 
-pub itself : (s : SessionValue) → IsSoundSession s → AreSoundAlike s s
-itself s h = record { sound = h; also_sound = h; alike = to_itself s }
-
-pub seated_itself : (s : SessionValue) → IsSeatedSession s → AreSeatedAlike s s
-seated_itself s h = record { seated = h; also_seated = h; alike = to_itself s }
+pub itself : (Is : SessionValue → Type 0) (s : SessionValue) → Is s → AreBothAlike Is s s
+itself Is s h = record { one = h; other = h; alike = to_itself s }
 
 -- where no branch of a sound session is open, no tile is leased
 pub none_leased : (s : SessionValue) → IsSoundSession s → s.worker ≡ None → leased_in s.book.tiles ≡ 0
@@ -26,13 +23,13 @@ none_leased s h e = h.leased ∙ ap open_branches e
 pub pooled_seated : (a b : SessionValue) (new : BookValue) → AreSeatedAlike a b → leased_in b.book.tiles ≡ 0 → IsSearched a.book new
     → IsTiling new.problem new.branch new.first new.tiles → AreSoundAlike (session_on new) (session_on (searched b.book))
 pooled_seated a b new p n s t = record {
-  sound = on_sound new t (pool_counts a.book new s);
-  also_sound = on_sound (searched b.book) (searched_tiling b.book p.also_seated.tiling) (searched_counts b.book n);
+  one = on_sound new t (pool_counts a.book new s);
+  other = on_sound (searched b.book) (searched_tiling b.book p.other.tiling) (searched_counts b.book n);
   alike = record { book = pool_alike a.book b.book new p.alike.book n s; runner = refl; breaks = refl };
 }
 
 pub pooled_alike : (a b : SessionValue) (new : BookValue) → AreSoundAlike a b → b.worker ≡ None → IsSearched a.book new
     → IsTiling new.problem new.branch new.first new.tiles → AreSoundAlike (session_on new) (session_on (searched b.book))
 pooled_alike a b new p e s t =
-    pooled_seated a b new (record { seated = p.sound.seated; also_seated = p.also_sound.seated; alike = p.alike })
-    (none_leased b p.also_sound e) s t
+    pooled_seated a b new (record { one = p.one.seated; other = p.other.seated; alike = p.alike })
+    (none_leased b p.other e) s t

@@ -21,7 +21,8 @@ use Rattle.lab_world.specs.declared.event.Act.{Act}
 use Rattle.lab_world.specs.World.{turn_of, worker_at, played}
 use Rattle.lab_world.specs.Alone.{alone, own_events}
 use Rattle.debug_language.specs.Command.{CommandValue}
-use Rattle.debug_acts.specs.Lines.{state_line, book_refusal}
+use Rattle.debug_language.specs.Replies.{state_line}
+use Rattle.debug_acts.specs.Answer.{book_refusal}
 use Rattle.x_debug.specs.Session.{SessionValue, fresh_session, session_on, entered}
 use Rattle.x_debug.specs.Commands.{Deed, done_by, deed_of, deed_of_line, answer, answer_line, IsLeft, left_by}
 use Rattle.x_debug.specs.LoadedTexts.{answers, load_by, load_answer, loaded, breaks_of}

@@ -1,41 +1,43 @@
--- A book and worker 0's seat stay sound by each act of that worker.
-use Rattle.std.proofs.Common.{◌≡◌, ℕ, zero, suc, ◌-◌, ◌<◌, ◌==◌, Bool, true, false, cond, Option, Some, None, Result, List, [], ◌∷◌, refl, sym, ap, ◌∙◌, subst, arith, eqb-true}
+-- A book and worker 0's seat stay sound by each act of that worker. What the book takes out of its tile is the last stretch, which ends where the
+-- worker stands.
+use Rattle.std.proofs.Common.{◌≡◌, ℕ, Option, Some, None, Result, refl, sym, ap, ◌∙◌, zero, suc, ◌-◌, ◌<◌, ◌==◌, Bool, true, false, cond, List, [], ◌∷◌, subst, arith, eqb-true}
+use Rattle.x_steps.specs.StateValue.{StateValue}
+use Rattle.x_steps.specs.Run.{after}
+use Rattle.x_branches.specs.Runner.{RunnerValue, IsRunner, unposted_steps, IsBranch, IsWithin}
+use Rattle.lab_history.specs.declared.fault.BookFault.{BookFault}
+use Rattle.lab_history.specs.declared.entry.Call.TheVariants as call
+use Rattle.lab_history.specs.declared.entry.Reply.TheVariants as reply
+use Rattle.lab_book.specs.Tiling.{IsTiling}
+use Rattle.lab_book.specs.Book.{BookValue, outcome, made_at, unless, last_stretch, retracted, retract_fault, book_step}
+use Rattle.lab_world.specs.Worker.{WorkerValue, HoldsTile, moved_to, marked_at, unposted, split_call, lent_worker, after_post, after_split, after_retract, after_end}
+use Rattle.lab_world.proofs.HoldLemmas.{passed}
+use Rattle.lab_world.proofs.OwnLemmas.{found_own, own, last_own, some_is, Has, own_is_tile, retract_has}
+use Rattle.lab_world.proofs.PostLemmas.{last_ends}
 use Rattle.std.proofs.lemmas.Bool.{false≢true}
 use Rattle.shared_words.specs.Lists.{has}
 use Rattle.cover_problem.specs.Problem.{ProblemValue}
-use Rattle.x_steps.specs.StateValue.{StateValue}
 use Rattle.x_steps.specs.Steps.{next}
 use Rattle.x_steps.specs.Before.{prev}
-use Rattle.x_steps.specs.Run.{after}
 use Rattle.x_branches.specs.declared.branch.Branch.{Branch}
 use Rattle.x_branches.specs.Branch.{end_of}
 use Rattle.x_branches.specs.Cut.{IsCut, cut_state}
 use Rattle.x_branches.specs.Stretch.{StretchValue, IsStretch}
 use Rattle.x_branches.specs.Refusals.{most_steps, untried_in, cut_at}
-use Rattle.x_branches.specs.Runner.{RunnerValue, IsRunner, IsBranch, IsWithin, unposted_steps}
 use Rattle.x_branches.specs.Untried.{with_choice}
 use Rattle.x_branches.proofs.CutLemmas.{cut_fits}
 use Rattle.x_branches.proofs.StageLemmas.{comes_rank}
 use Rattle.x_branches.proofs.RunnerLemmas.{may_end}
-use Rattle.lab_history.specs.declared.fault.BookFault.{BookFault}
 use Rattle.lab_history.specs.declared.entry.Call.{Call}
-use Rattle.lab_history.specs.declared.entry.Call.TheVariants as call
 use Rattle.lab_history.specs.declared.entry.Reply.{Reply}
-use Rattle.lab_history.specs.declared.entry.Reply.TheVariants as reply
 use Rattle.lab_book.specs.States.{same_state}
-use Rattle.lab_book.specs.Tile.{TileValue, Join}
-use Rattle.lab_book.specs.Tiling.{IsTiling}
+use Rattle.lab_book.specs.Tile.{Join}
 use Rattle.lab_book.specs.Calls.{post_of}
-use Rattle.lab_book.specs.Book.{BookValue, outcome, book_step, made_at, unless, last_stretch, retracted, retract_fault}
 use Rattle.lab_book.proofs.TileLemmas.{is_same_state, stretch_by, tile_can_start}
 use Rattle.lab_world.specs.declared.event.Act.{Act}
-use Rattle.lab_world.specs.declared.event.Act.TheVariants.{Step, Back, Lease, LeaseAny, TakeHeld, Post, Split, Retract, Park, Abandon}
-use Rattle.lab_world.specs.declared.event.Act.TheVariants.{Close, PutBack, RequestStop}
-use Rattle.lab_world.specs.Worker.{WorkerValue, HoldsTile, moved_to, marked_at, unposted, split_call, lent_worker, after_post, after_split, after_retract, after_end}
+use Rattle.lab_world.specs.declared.event.Act.TheVariants.{Step, Back, Lease, LeaseAny, TakeHeld, Post, Split, Retract, Park, Abandon, Close, PutBack}
+use Rattle.lab_world.specs.declared.event.Act.TheVariants.{RequestStop}
 use Rattle.lab_world.specs.World.{Turn, IsSeat, turn_of, called, worker_at, played}
 use Rattle.lab_world.specs.Alone.{alone, own_events}
-use Rattle.lab_world.proofs.HoldLemmas.{passed}
-use Rattle.lab_world.proofs.OwnLemmas.{Has, own, own_is_tile, found_own, last_own, some_is, retract_has}
 use Rattle.lab_world.proofs.SplitLemmas.{cut_is}
 use Rattle.lab_world.proofs.TurnLemmas.{turn_keeps}
 use Rattle.debug_acts.specs.Walk.{steps_ahead}
@@ -44,7 +46,33 @@ use Rattle.debug_acts.proofs.BackLemmas.{none_back, back_next}
 use Rattle.debug_acts.proofs.ForwardLemmas.{to_end}
 use Rattle.debug_acts.proofs.WorkLemmas.{work, work_posted, IsWork, here_fits, start_fits, walked, posted_work, moved_work, back_runner, next_runner, can_walk}
 use Rattle.debug_laws.specs.AlikeSessions.{HasRunner}
-use Rattle.debug_laws.proofs.BookLemmas.{at_mark, to_here}
+
+-- a runner with nothing unposted is at its mark
+pub at_mark : (r : RunnerValue) → IsRunner r → unposted_steps r ≡ 0 → r.mark ≡ r.position
+at_mark r k e = ap (λ (n : ℕ). after r.problem n r.mark) (sym e) ∙ k.stretch.reaches.ends
+
+-- ---- where the last stretch of a tile ends
+
+module _ (b : BookValue) (x : WorkerValue) (tiling : IsTiling b.problem b.branch b.first b.tiles) (h : HoldsTile b x) (from to : StateValue)
+    (e : (outcome b x.grant.worker (call.Retract x.grant)).reply ≡ reply.Retracted from to) where
+  -- what is taken out is the last stretch of its tile
+  pub last_taken : (last_stretch (own b x tiling h).stretches ≡ Some (last_own b x tiling h)) × ((last_own b x tiling h).from ≡ from)
+      × ((last_own b x tiling h).to ≡ to)
+  unfolding outcome
+  last_taken =
+      by (retract_fault (own b x tiling h)) refl
+      (sym e ∙ ap (λ (r : Result ℕ BookFault). (made_at b.tiles (retracted b) r).reply) (found_own b x tiling h retract_fault))
+    where
+      by : (d : Option BookFault) → retract_fault (own b x tiling h) ≡ d → reply.Retracted from to ≡ (made_at b.tiles (retracted b) (unless h.tile.place d)).reply
+          → (last_stretch (own b x tiling h).stretches ≡ Some (last_own b x tiling h)) × ((last_own b x tiling h).from ≡ from)
+          × ((last_own b x tiling h).to ≡ to)
+      by None d e = (some_is _ _ (passed _ _ _ d).0, cc, cc)
+      by (Some f) d e = absurd (cc)
+
+  pub to_here : IsRunner x.runner → unposted_steps x.runner ≡ 0 → to ≡ x.runner.position
+  to_here k none =
+      sym last_taken.2 ∙ sym (last_ends (own b x tiling h).first (own b x tiling h).stretches (last_own b x tiling h) last_taken.0)
+      ∙ sym h.tile.tile.mark ∙ at_mark x.runner k none
 
 -- ---- who leases a tile has a runner at its mark
 
@@ -186,27 +214,11 @@ module _ (b : BookValue) (w : WorkerValue) (h : IsSoundSeat b (Some w)) where
 
   -- it was one
   told_stretch : (from to : StateValue) → asked_reply ≡ reply.Retracted from to → IsStretch b.problem from to
-  unfolding outcome
   told_stretch from to e =
-      by (retract_fault tile) refl
-      (sym e ∙ ap (λ (r : Result ℕ BookFault). (made_at b.tiles (retracted b) r).reply) (found_own b w h.tiling h.seat.1 retract_fault))
-    where
-      tile : TileValue
-      tile = own b w h.tiling h.seat.1
-
-      last : StretchValue
-      last = last_own b w h.tiling h.seat.1
-
-      by : (d : Option BookFault) → retract_fault tile ≡ d
-          → reply.Retracted from to ≡ (made_at b.tiles (retracted b) (unless h.seat.1.tile.place d)).reply
-          → IsStretch b.problem from to
-      by None d e =
-          let i = own_is_tile b w h.tiling h.seat.1 in
-          let begins : last.from ≡ from = cc in
-          let ends : last.to ≡ to = cc in
-          subst (λ (x : StateValue × StateValue). IsStretch b.problem x.0 x.1) (λ j. (begins j, ends j))
-          (last_part b.problem tile.first tile.stretches last i.joins (some_is _ _ (passed _ _ _ d).0))
-      by (Some f) d e = absurd (cc)
+      let tile = own b w h.tiling h.seat.1 in
+      let last = last_taken b w h.tiling h.seat.1 from to e in
+      subst (λ (x : StateValue × StateValue). IsStretch b.problem x.0 x.1) (λ j. (last.1 j, last.2 j))
+      (last_part b.problem tile.first tile.stretches (last_own b w h.tiling h.seat.1) (own_is_tile b w h.tiling h.seat.1).joins last.0)
 
   taken_back : unposted_steps r ≡ 0 → (z : Reply) → asked_reply ≡ z → HasRunner (after_retract w z)
   taken_back none (reply.Retracted from to) e =
@@ -217,7 +229,7 @@ module _ (b : BookValue) (w : WorkerValue) (h : IsSoundSeat b (Some w)) where
       record {
         branch = h.runner.branch;
         stretch = subst (λ (q : ProblemValue × StateValue). IsStretch q.0 from q.1)
-            (λ j. (sym h.seat.1.problem j, to_here b w h.tiling h.seat.1 h.runner from to none e j)) (told_stretch from to e);
+            (λ j. (sym h.seat.1.problem j, to_here b w h.tiling h.seat.1 from to e h.runner none j)) (told_stretch from to e);
         mark_in = mark_within new (marked_at w from) (call_keeps b h.tiling w.grant.worker (call.Retract w.grant) tt) holds;
         position_in = h.runner.position_in;
       }

@@ -11,7 +11,8 @@ use Rattle.lab_world.specs.Worker.{WorkerValue}
 use Rattle.lab_world.specs.World.{WorldValue, IsWorld, IsSeat, turn_of, worker_at, played}
 use Rattle.lab_world.specs.Alone.{alone, own_events, Leads}
 use Rattle.lab_world.proofs.AloneLemmas.{then_acts}
-use Rattle.debug_acts.specs.Lines.{state_line, book_refusal}
+use Rattle.debug_language.specs.Replies.{state_line}
+use Rattle.debug_acts.specs.Answer.{book_refusal}
 use Rattle.x_debug.specs.Session.{SessionValue, fresh_session, entered}
 use Rattle.x_debug.specs.Commands.{world_of, deed_of_line, answer_line}
 use Rattle.x_debug.specs.LoadedTexts.{answers, load_by, load_answer, loaded}

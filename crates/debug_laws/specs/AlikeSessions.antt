@@ -42,35 +42,26 @@ pub record IsSoundSession (s : SessionValue) : Type 0 where
   pub seated : IsSeatedSession s
   pub leased : leased_in s.book.tiles ≡ open_branches s.worker
 
--- two seated sessions that are alike
-pub record AreSeatedAlike (a b : SessionValue) : Type 0 where
-  pub seated : IsSeatedSession a
-  pub also_seated : IsSeatedSession b
+-- two sessions that are alike, both of which are seated, or sound
+pub record AreBothAlike (Is : SessionValue → Type 0) (a b : SessionValue) : Type 0 where
+  pub one : Is a
+  pub other : Is b
   pub alike : AreAlikeSessions a b
 
--- two sound sessions that are alike
-pub record AreSoundAlike (a b : SessionValue) : Type 0 where
-  pub sound : IsSoundSession a
-  pub also_sound : IsSoundSession b
-  pub alike : AreAlikeSessions a b
+abbrev pub AreSeatedAlike : SessionValue → SessionValue → Type 0
+AreSeatedAlike a b = AreBothAlike IsSeatedSession a b
 
--- the same text is answered, and the sessions that are left are seated and alike
-pub record AreSeatedAnswers (a b : Answer) : Type 0 where
+abbrev pub AreSoundAlike : SessionValue → SessionValue → Type 0
+AreSoundAlike a b = AreBothAlike IsSoundSession a b
+
+-- the same text is answered, and the sessions that are left are alike, and seated or sound
+pub record AreAnswersAlike (Is : SessionValue → Type 0) (a b : Answer) : Type 0 where
   pub text : a.text ≡ b.text
-  pub sessions : AreSeatedAlike a.session b.session
+  pub sessions : AreBothAlike Is a.session b.session
 
--- the same text is answered, and the sessions that are left are sound and alike
-pub record AreAlikeAnswers (a b : Answer) : Type 0 where
-  pub text : a.text ≡ b.text
-  pub sessions : AreSoundAlike a.session b.session
-
--- an answer to a seated session leaves a seated one
-abbrev pub LeavesSeated : SessionValue → Answer → Type 0
-LeavesSeated s a = IsSeatedSession s → IsSeatedSession a.session
-
--- an answer to a sound session leaves a sound one
-abbrev pub LeavesSound : SessionValue → Answer → Type 0
-LeavesSound s a = IsSoundSession s → IsSoundSession a.session
+-- an answer to a session that is seated, or sound, leaves one that is
+abbrev pub AnswerKeeps : (SessionValue → Type 0) → SessionValue → Answer → Type 0
+AnswerKeeps Is s a = Is s → Is a.session
 
 -- of two sessions that are alike, with no branch open, a pool made the first one's book to this one; the session on it is alike to that on
 -- the second one's searched book
@@ -85,10 +76,6 @@ PooledSeated a b new =
     AreSeatedAlike a b → leased_in b.book.tiles ≡ 0 → IsSearched a.book new → IsTiled new
     → AreSoundAlike (session_on new) (session_on (searched b.book))
 
--- where two sessions are seated and alike, they answer alike
-abbrev pub SeatedAgreeOn : SessionValue → SessionValue → (SessionValue → Answer) → Type 0
-SeatedAgreeOn a b f = AreSeatedAlike a b → AreSeatedAnswers (f a) (f b)
-
--- where two sessions are sound and alike, they answer alike
-abbrev pub AgreeOn : SessionValue → SessionValue → (SessionValue → Answer) → Type 0
-AgreeOn a b f = AreSoundAlike a b → AreAlikeAnswers (f a) (f b)
+-- where two sessions are alike, and seated or sound, they answer alike
+abbrev pub AgreeOn : (SessionValue → Type 0) → SessionValue → SessionValue → (SessionValue → Answer) → Type 0
+AgreeOn Is a b f = AreBothAlike Is a b → AreAnswersAlike Is (f a) (f b)

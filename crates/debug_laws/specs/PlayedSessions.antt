@@ -8,14 +8,13 @@ use Rattle.cover_problem.specs.Problem.{ProblemValue, is_same}
 use Rattle.x_steps.specs.StateValue.{start}
 use Rattle.x_snapshot.specs.declared.fault.SnapshotFault.{SnapshotFault}
 use Rattle.x_snapshot.specs.Snapshot.{SnapshotValue, branch_between}
-use Rattle.x_snapshot.specs.Judged.{snapshot_of}
 use Rattle.lab_book.specs.Book.{BookValue, new_book}
 use Rattle.lab_world.specs.declared.event.Act.{Act}
 use Rattle.lab_world.specs.declared.event.Act.TheVariants.{LeaseAny}
 use Rattle.lab_world.specs.World.{WorldValue, played, new_world}
 use Rattle.lab_world.specs.Alone.{own_events}
 use Rattle.x_debug.specs.Session.{SessionValue, fresh_session}
-use Rattle.x_debug.specs.Commands.{Answer, world_of, deed_of_line, answer_line}
+use Rattle.x_debug.specs.Commands.{world_of, deed_of_line, answer_line}
 
 -- the session that lines leave, one after another
 abbrev pub left_by_lines : SessionValue → List (List ℕ) → SessionValue
@@ -39,10 +38,6 @@ entered_world b = played (new_world b 1) (own_events (LeaseAny ∷ []))
 abbrev pub whole_book : ProblemValue → BookValue
 whole_book p = new_book p (record { lo = None; hi = None }) start
 
--- a new session of a problem is the world of that book, whose worker was leased the first tile that waits
-abbrev pub BeginsEntered : ProblemValue → Type 0
-BeginsEntered p = world_of (fresh_session p) ≡ entered_world (whole_book p)
-
 -- lines leave a new session of a problem as the world whose worker leases the first tile that waits, and then does their acts
 abbrev pub WholePlays : ProblemValue → List (List ℕ) → Type 0
 WholePlays p lines =
@@ -57,7 +52,3 @@ snapshot_book v = new_book v.problem (branch_between v.problem v.lo v.hi) v.stat
 abbrev pub loaded_world : SessionValue → Result SnapshotValue SnapshotFault → WorldValue
 loaded_world s (Ok v) = if is_same v.problem s.book.problem then entered_world (snapshot_book v) else world_of s
 loaded_world s (Err f) = world_of s
-
--- an answer to a session leaves it as this text does, once it was loaded
-abbrev pub Loads : SessionValue → List ℕ → Answer → Type 0
-Loads s bytes a = world_of a.session ≡ loaded_world s (snapshot_of bytes)

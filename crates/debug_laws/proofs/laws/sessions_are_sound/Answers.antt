@@ -1,4 +1,5 @@
-use Rattle.debug_laws.proofs.PooledLemmas.{itself, seated_itself}
+use Rattle.debug_laws.specs.AlikeSessions.{IsSeatedSession, IsSoundSession}
+use Rattle.debug_laws.proofs.PooledLemmas.{itself}
 use Rattle.debug_laws.proofs.SoundLemmas.{fresh_sound, answer_sound, line_sound, load_sound, stopped_sound, answer_seated, line_seated, load_seated, stopped_seated}
 use Rattle.debug_laws.proofs.laws.sessions_are_sound.Goals as goal
 
@@ -18,7 +19,7 @@ pub returns-clause-stopped : goal.returns-clause-stopped
 returns-clause-stopped c = λ s new line h l. stopped_sound s h line new l
 
 pub returns-clause-itself : goal.returns-clause-itself
-returns-clause-itself c = λ s h. itself s h
+returns-clause-itself c = λ s h. itself IsSoundSession s h
 
 pub returns-clause-seated_command : goal.returns-clause-seated_command
 returns-clause-seated_command c = λ s d h. answer_seated s h d
@@ -33,4 +34,4 @@ pub returns-clause-seated_stopped : goal.returns-clause-seated_stopped
 returns-clause-seated_stopped c = λ s new line h l. stopped_seated s h line new l
 
 pub returns-clause-seated_itself : goal.returns-clause-seated_itself
-returns-clause-seated_itself c = λ s h. seated_itself s h
+returns-clause-seated_itself c = λ s h. itself IsSeatedSession s h

@@ -1,7 +1,6 @@
--- The examples of specs/Lines.antt, Breakpoints.antt, Tiles.antt, Overview.antt, Acts.antt, Answer.antt, Ends.antt and Walk.antt, computed on
--- the small problem.
-use Rattle.std.proofs.Common.{◌≡◌, Some, None, [], ◌∷◌, ◌++◌, codes, refl, ℕ, zero, suc}
-use Rattle.std.proofs.Common.{◌<◌, ◌≤◌, Option, List, replicate, take, Result, Ok, Err, ap, subst, arith}
+-- The examples of specs/Breakpoints.antt, Tiles.antt, Overview.antt, Acts.antt, Answer.antt and Walk.antt, computed on the small problem.
+use Rattle.std.proofs.Common.{◌≡◌, Some, None, [], ◌∷◌, ◌++◌, codes, refl, ℕ, zero, suc, ◌<◌, ◌≤◌, Option, List, replicate, take, Result, Ok, Err, ap}
+use Rattle.std.proofs.Common.{subst, arith}
 use Rattle.std.specs.Fmt.{digits}
 use Rattle.text_lines.specs.Writing.{line_text, text_of}
 use Rattle.cover_problem.specs.Covering.{active, remaining, choice}
@@ -13,9 +12,7 @@ use Rattle.x_steps.specs.StateValue.{StateValue, at, start}
 use Rattle.x_steps.specs.Steps.{covered_in}
 use Rattle.x_branches.specs.Runner.{RunnerValue, runner_at}
 use Rattle.x_texts.specs.declared.breakpoint.Break.TheVariants as breaks
-use Rattle.lab_history.specs.declared.fault.BookFault.TheVariants.{UnknownBranch}
 use Rattle.lab_book.specs.Book.{BookValue, new_book, outcome, book_step}
-use Rattle.debug_acts.specs.Lines.{state_line, book_refusal}
 use Rattle.debug_acts.specs.Breakpoints.{meets, first_met, with_break}
 use Rattle.debug_acts.specs.Overview.{runner_branch, runner_covered}
 use Rattle.debug_acts.specs.Tiles.{open_lines, place_at, BeginsAt}
@@ -24,7 +21,7 @@ use Rattle.x_steps.specs.declared.event.Event.TheVariants as event
 use Rattle.x_steps.specs.Run.{steps_between}
 use Rattle.x_steps.proofs.RunLemmas.{start_fits}
 use Rattle.x_steps.proofs.BetweenLemmas.{steps_between_self}
-use Rattle.x_branches.specs.Cut.{CutPath, cut_state, path_cut}
+use Rattle.x_branches.specs.Cut.{path_cut}
 use Rattle.lab_history.specs.declared.entry.Call.TheVariants as call
 use Rattle.lab_world.specs.Worker.{WorkerValue, HoldsTile, moved_to}
 use Rattle.lab_world.specs.declared.event.Act.{Act}
@@ -32,11 +29,9 @@ use Rattle.lab_world.specs.declared.event.Act.TheVariants.{Back, Retract, Park, 
 use Rattle.lab_world.specs.World.{WorldValue, worker_at, turn_of}
 use Rattle.lab_world.specs.Alone.{Leads}
 use Rattle.debug_acts.specs.declared.answer.Told.TheVariants as told
-use Rattle.debug_acts.specs.Walk.{WalksFar, AreSomeSteps, steps_ahead, step_count, run_count, back_count, back_lines}
-use Rattle.debug_acts.specs.Acts.{end_acts, LeadsSome, LeadsPart, PlaysSome, Plays, PlaysShort, Walks}
-use Rattle.debug_acts.specs.Acts.{WalksPart, PlaysWalk, PlaysStep, PlaysRun, WalksBack, PlaysBack, StaysSeated}
-use Rattle.debug_acts.specs.Answer.{told_lines}
-use Rattle.debug_acts.specs.Ends.{AreChoicesOf, close_line}
+use Rattle.debug_acts.specs.Walk.{WalksFar, AreSomeSteps, back_count, back_lines}
+use Rattle.debug_acts.specs.Acts.{end_acts, LeadsSome, LeadsPart, PlaysSome, Plays, PlaysShort, Walks, WalksPart, PlaysWalk, WalksBack, PlaysBack, StaysSeated}
+use Rattle.debug_acts.specs.Answer.{told_lines, AreChoicesOf, close_line}
 
 -- the book of the whole run, of one tile that waits
 abbrev whole : BookValue
@@ -45,16 +40,6 @@ whole = new_book small (record { lo = None; hi = None }) start
 -- option 4 is chosen, and option 5 is about to be tried
 abbrev at_five : StateValue
 at_five = at X5 (4 ∷ []) (cursor.At 5)
-
--- ---- specs/Lines.antt
-
-its_line : line_text (state_line at_five) ≡ codes "at X5 5 4" ++ 10 ∷ []
-unfolding digits
-its_line = refl
-
-unknown : line_text (book_refusal UnknownBranch) ≡ codes "refused book 1 UnknownBranch" ++ 10 ∷ []
-unfolding digits
-unknown = refl
 
 -- ---- specs/Breakpoints.antt
 
@@ -108,16 +93,9 @@ its_covered = refl
 abbrev leased : BookValue
 leased = book_step whole 0 call.LeaseAny
 
--- and a worker at the start of a branch that ends there
-abbrev up_to : Option CutPath → WorkerValue
-up_to hi = record {
-  grant = record { id = 0; worker = 0; index = 0 };
-  runner = runner_at small (record { lo = None; hi = hi }) start;
-}
-
--- the one that has that tile
+-- the worker that has that tile
 abbrev at_start : WorkerValue
-at_start = up_to None
+at_start = record { grant = record { id = 0; worker = 0; index = 0 }; runner = runner_at small (record { lo = None; hi = None }) start }
 
 nothing_unposted : steps_between small start start ≡ 0
 nothing_unposted = steps_between_self small start (start_fits small)
@@ -137,15 +115,15 @@ label_of None = X1
 label_of (Some w) = w.runner.position.label
 
 -- no acts don't lead there
-none_lead : (hi : Option CutPath) (acts : List Act) (n : ℕ) → n ≤ 0 → ¬ Leads whole (Some (up_to hi)) (take n acts) whole (Some elsewhere)
-none_lead hi acts zero l h = let e : X1 ≡ X5 = ap (λ (v : WorldValue). label_of (worker_at v.workers 0)) h in absurd (cc)
-none_lead hi acts (suc n) l h = omega (arith, l)
+none_lead : (acts : List Act) (n : ℕ) → n ≤ 0 → ¬ Leads whole (Some at_start) (take n acts) whole (Some elsewhere)
+none_lead acts zero l h = let e : X1 ≡ X5 = ap (λ (v : WorldValue). label_of (worker_at v.workers 0)) h in absurd (cc)
+none_lead acts (suc n) l h = omega (arith, l)
 
 not_some : ¬ LeadsSome whole (Some at_start) (Back ∷ []) 0 whole (Some elsewhere)
-not_some h = none_lead None (Back ∷ []) h.count h.within h.leads
+not_some h = none_lead (Back ∷ []) h.count h.within h.leads
 
 not_part : ¬ LeadsPart whole (Some at_start) [] whole (Some elsewhere)
-not_part h = none_lead None [] h.count h.within h.leads
+not_part h = none_lead [] h.count h.within h.leads
 
 -- an answer, and an error
 abbrev well : Result ℕ ℕ
@@ -158,7 +136,7 @@ not_failed : ¬ PlaysSome failed whole (Some at_start) (Back ∷ []) 0 whole (So
 not_failed h = not_some h.1
 
 not_played : ¬ Plays well whole (Some at_start) [] whole (Some elsewhere)
-not_played h = none_lead None [] 0 (omega arith) h.0
+not_played h = none_lead [] 0 (omega arith) h.0
 
 -- of one act none is done where the last one isn't
 not_short : ¬ PlaysShort failed whole (Some at_start) (Back ∷ []) whole (Some elsewhere)
@@ -166,40 +144,22 @@ not_short h = not_some h.1
 
 -- no steps don't lead there
 not_walked : ¬ Walks whole at_start 0 whole elsewhere
-not_walked h = none_lead None [] 0 (omega arith) h
+not_walked h = none_lead [] 0 (omega arith) h
 
 no_part_walked : ¬ WalksPart whole at_start 0 whole elsewhere
-no_part_walked h = none_lead None [] h.count h.within h.leads
+no_part_walked h = none_lead [] h.count h.within h.leads
 
 no_walk_played : ¬ PlaysWalk well whole at_start 0 whole elsewhere
 no_walk_played h = not_walked h.0
 
 not_gone_back : ¬ WalksBack at_start 0 elsewhere
-not_gone_back h = none_lead None [] 0 (omega arith) (h whole)
+not_gone_back h = none_lead [] 0 (omega arith) (h whole)
 
--- a worker whose branch ends where it stands takes no step
-abbrev at_end : WorkerValue
-at_end = up_to (Some (path_cut small []))
-
-none_ahead : steps_ahead at_end.runner ≡ 0
-unfolding cut_state
-none_ahead = nothing_unposted
-
-not_stepped : ¬ PlaysStep well whole at_end 1 whole elsewhere
-not_stepped h =
-    let none : step_count at_end.runner 1 ≡ 0 = rw none_ahead refl in
-    none_lead (Some (path_cut small [])) [] 0 (omega arith) (subst (λ (n : ℕ). Walks whole at_end n whole elsewhere) none h.0)
-
-not_run : ¬ PlaysRun well whole at_end [] whole elsewhere
-not_run h =
-    let none : run_count [] at_end.runner ≡ 0 = rw none_ahead refl in
-    none_lead (Some (path_cut small [])) [] 0 (omega arith) (subst (λ (n : ℕ). Walks whole at_end n whole elsewhere) none h.0)
-
--- and one at its mark no step back
+-- a worker at its mark takes no step back
 not_back : ¬ PlaysBack well at_start 1 elsewhere
 not_back h =
     let none : back_count at_start.runner 1 ≡ 0 = rw nothing_unposted refl in
-    none_lead None [] 0 (omega arith)
+    none_lead [] 0 (omega arith)
     (subst (λ (n : ℕ). Leads whole (Some at_start) (replicate n Back) whole (Some elsewhere)) none (h whole).0)
 
 its_tile : HoldsTile leased at_start
@@ -222,8 +182,6 @@ none_posted = rw nothing_unposted refl
 is_held : text_of (told_lines whole None (RequestStop 0) (told.Tile 0)) ≡ codes "branch start to end held" ++ 10 ∷ []
 unfolding turn_of outcome
 is_held = refl
-
--- ---- specs/Ends.antt
 
 not_closed : line_text (close_line None) ≡ codes "refused book 8 NotAtEnd" ++ 10 ∷ []
 unfolding digits

@@ -1,6 +1,6 @@
 -- Steps back of a worker: where they lead, where they end, and their acts.
-use Rattle.std.proofs.Common.{◌≡◌, ℕ, zero, suc, ◌+◌, ◌-◌, ◌<◌, ◌≤◌, ◌⊎◌, inl, inr, Bool, true, false, Some, Result, List, [], ◌∷◌, replicate, refl, sym, ◌∙◌, ap, subst, arith}
-use Rattle.std.proofs.lemmas.Bool.{cases_lt}
+use Rattle.std.proofs.Common.{◌≡◌, ℕ, zero, suc, ◌+◌, ◌-◌, ◌<◌, ◌≤◌, ◌⊎◌, inl, inr, false, Some, Result, List, [], ◌∷◌, replicate, refl, sym, ◌∙◌, ap, subst, arith}
+use Rattle.std.proofs.lemmas.Bool.{cases_lt, false_from_ne_true}
 use Rattle.std.proofs.lemmas.List.{replicate_more}
 use Rattle.x_steps.specs.Before.{prev}
 use Rattle.x_steps.specs.Run.{after, ReachesIn}
@@ -19,7 +19,7 @@ use Rattle.lab_world.specs.Alone.{alone, Leads}
 use Rattle.lab_world.proofs.AloneLemmas.{one_act, then_acts}
 use Rattle.debug_acts.specs.Walk.{state_back, back_count}
 use Rattle.debug_acts.specs.Acts.{WalksBack, PlaysBack, StaysSeated}
-use Rattle.debug_acts.proofs.CountLemmas.{least_second, least_first_is}
+use Rattle.debug_acts.proofs.ForwardLemmas.{least_second, least_first_is}
 use Rattle.debug_acts.proofs.LeadLemmas.{plays_all}
 
 module _ (r : RunnerValue) (k : IsRunner r) where
@@ -64,13 +64,8 @@ module _ (b : BookValue) (x : WorkerValue) (k : IsRunner x.runner) where
   stood n = moved_to x (state_back x.runner n)
 
   not_mark : (n : ℕ) → n < unposted_steps x.runner → same_state (state_back x.runner n) x.runner.mark ≡ false
-  not_mark n l = by (same_state (state_back x.runner n) x.runner.mark) refl
-    where
-      by : (v : Bool) → same_state (state_back x.runner n) x.runner.mark ≡ v → v ≡ false
-      by false e = refl
-      by true e =
-          let all = all_back x.runner k n (omega arith) (same_state_is (state_back x.runner n) x.runner.mark e) in
-          absurd (omega arith)
+  not_mark n l = false_from_ne_true _ (λ e.
+      let all = all_back x.runner k n (omega arith) (same_state_is (state_back x.runner n) x.runner.mark e) in omega arith)
 
   one_back : (n : ℕ) → n < unposted_steps x.runner → Leads b (Some (stood n)) (Back ∷ []) b (Some (stood (suc n)))
   unfolding turn_of

@@ -21,10 +21,9 @@ use Rattle.lab_world.proofs.AloneLemmas.{steps_lead}
 use Rattle.x_texts.specs.Words.{visit_words}
 use Rattle.debug_acts.specs.Walk.{WalksFar, steps_ahead, step_count, state_on, visit_lines}
 use Rattle.debug_acts.specs.Acts.{step_acts, room_acts, walk_acts, LeadsSome, WalksPart}
-use Rattle.debug_acts.proofs.ForwardLemmas.{to_end, on_goes_on}
+use Rattle.debug_acts.proofs.ForwardLemmas.{to_end, on_goes_on, least_both}
 use Rattle.debug_acts.proofs.WorkLemmas.{AtWork, work, IsWork, can_walk}
-use Rattle.debug_acts.proofs.LeadLemmas.{LeadsTo, then_to, one_end, begun, with_room, room_leads, room_worker, step_is, next_acts, walk_more, walk_part, part_more, all_part}
-use Rattle.debug_acts.proofs.CountLemmas.{least_both}
+use Rattle.debug_acts.proofs.LeadLemmas.{LeadsTo, then_to, one_end, begun, with_room, room, next_acts, walk_more, walk_part, part_more, all_part}
 
 -- one step is the whole of a walk of one
 pub one_can : (r : RunnerValue) → CanAdvance r → CanAdvanceBy r 1
@@ -38,8 +37,7 @@ module _ (u : AtWork) (s : IsWork u) where
       let e : suc n ≡ n + 1 = omega arith in
       let more = walk_acts n (played (begun u) (own_events (walk_acts 1 (begun u)))) in (
         Step ∷ more,
-        ap (λ (k : ℕ). walk_acts k (begun u)) e ∙ walk_more n 1 (begun u)
-            ∙ ap (λ (xs : List Act). xs ++ more) (step_is u.worker) ∙ append_assoc (room_acts u.worker) (Step ∷ []) more,
+        ap (λ (k : ℕ). walk_acts k (begun u)) e ∙ walk_more n 1 (begun u) ∙ append_assoc (room_acts u.worker) (Step ∷ []) more,
       )
 
   -- where memory runs out before a step is taken
@@ -49,26 +47,26 @@ module _ (u : AtWork) (s : IsWork u) where
       let q = room_first n some in
       part_more u.book v.book (Some u.worker) (Some v.worker) (room_acts u.worker) q.0 (walk_acts n (begun u)) most q.1 l p
 
-  module _ (c : BookValue) (y v : WorkerValue) (most : ℕ) (walk : Walk) (room : LeadsTo u (room_acts u.worker) (work c y)) (f : WalksFar y v most walk) where
+  module _ (c : BookValue) (y v : WorkerValue) (most : ℕ) (walk : Walk) (led : LeadsTo u (room_acts u.worker) (work c y)) (f : WalksFar y v most walk) where
     abbrev n : ℕ
     n = walk.steps
 
     -- the worker that walked is the old one, perhaps with another mark
     same : y ≡ marked_at u.worker (with_room u).worker.runner.mark
-    same = ap (λ (w : AtWork). w.worker) (one_end u (work c y) (with_room u) (room_acts u.worker) room (room_leads u s)) ∙ room_worker u s
+    same = ap (λ (w : AtWork). w.worker) (one_end u (work c y) (with_room u) (room_acts u.worker) led (room u s).leads) ∙ (room u s).same
 
     -- the acts of its steps, the first of which may make room
     far_acts : (m : ℕ) → CanAdvanceBy y.runner (suc m) → walk_acts (suc m) (begun u) ≡ room_acts u.worker ++ replicate (suc m) Step
-    far_acts zero can = step_is u.worker
+    far_acts zero can = refl
     far_acts (suc m) can =
         let ih = far_acts m (λ i l. can i (omega arith)) in
         let here = moved_forward_by y (suc m) in
-        let led = subst (λ (xs : List Act). LeadsTo u xs (work c here)) (sym ih)
-        (then_to u (work c y) (work c here) (room_acts u.worker) (replicate (suc m) Step) room (steps_lead y (suc m) (λ i l. can i (omega arith)) c)) in
+        let here_led = subst (λ (xs : List Act). LeadsTo u xs (work c here)) (sym ih)
+        (then_to u (work c y) (work c here) (room_acts u.worker) (replicate (suc m) Step) led (steps_lead y (suc m) (λ i l. can i (omega arith)) c)) in
         let free = ne_eqb (unposted_steps here.runner) most_steps (can (suc m) (omega arith)).has_room in
         let one : step_acts (Some here) ≡ Step ∷ [] = rw free refl in
         let e : suc m + 1 ≡ suc (suc m) = omega arith in
-        next_acts u s (suc m) (work c here) led ∙ (λ j. ih j ++ one j) ∙ append_assoc (room_acts u.worker) (replicate (suc m) Step) (Step ∷ [])
+        next_acts u s (suc m) (work c here) here_led ∙ (λ j. ih j ++ one j) ∙ append_assoc (room_acts u.worker) (replicate (suc m) Step) (Step ∷ [])
         ∙ ap (λ (xs : List Act). room_acts u.worker ++ xs) (replicate_more (suc m) Step ∙ ap (λ (k : ℕ). replicate k Step) e)
 
     pub far_made : LeadsTo u (walk_acts n (begun u)) (work c v)
@@ -79,7 +77,7 @@ module _ (u : AtWork) (s : IsWork u) where
         by (suc m) l can e =
             subst (λ (xs : List Act). LeadsTo u xs (work c v)) (sym (far_acts m can))
             (subst (λ (w : WorkerValue). LeadsTo u (room_acts u.worker ++ replicate (suc m) Step) (work c w)) (sym e)
-            (then_to u (work c y) (work c (moved_forward_by y (suc m))) (room_acts u.worker) (replicate (suc m) Step) room (steps_lead y (suc m) can c)))
+            (then_to u (work c y) (work c (moved_forward_by y (suc m))) (room_acts u.worker) (replicate (suc m) Step) led (steps_lead y (suc m) can c)))
 
     -- it keeps its number and its tile
     pub far_seat : (k : ℕ) → IsSeat c k (Some y) → ((b : BookValue) → HoldsTile b y → HoldsTile b v) → IsSeat c k (Some v)

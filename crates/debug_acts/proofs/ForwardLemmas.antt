@@ -1,6 +1,8 @@
--- Steps onward from a state: where they lead, what is left ahead, and which visits lie between.
-use Rattle.std.proofs.Common.{◌≡◌, ℕ, ◌+◌, ◌-◌, ◌<◌, ◌≤◌, ◌==◌, ◌⊎◌, inl, inr, Bool, true, false, IsTrue, ◌↔◌, [], ◌++◌, map, refl, sym, ◌∙◌, ap, arith, eq-eqb}
-use Rattle.std.proofs.lemmas.Bool.{cases_lt, ne_eqb, false≢true}
+-- Steps onward from a state: where they lead, what is left ahead, and which visits lie between; and the smaller one of two numbers of steps.
+use Rattle.std.proofs.Common.{◌≡◌, ℕ, zero, suc, ◌-◌, ◌<◌, ◌≤◌, ◌==◌, ◌⊎◌, inl, inr, false, refl, arith, le_refl, eq-eqb, ◌+◌, Bool, true, IsTrue}
+use Rattle.std.proofs.Common.{◌↔◌, [], ◌++◌, map, sym, ◌∙◌, ap}
+use Rattle.std.proofs.lemmas.Bool.{cases_lt, lt-ltb, le-ltb, ne_eqb, false≢true}
+use Rattle.debug_acts.specs.Walk.{smaller_of, steps_ahead, state_on, visit_lines}
 use Rattle.std.proofs.lemmas.List.{map-append}
 use Rattle.text_lines.specs.Writing.{text_of}
 use Rattle.cover_problem.specs.Problem.{ProblemValue}
@@ -15,8 +17,43 @@ use Rattle.x_steps.proofs.StretchLemmas.{reached_rank}
 use Rattle.x_branches.specs.Branch.{end_of}
 use Rattle.x_branches.specs.Runner.{RunnerValue}
 use Rattle.x_texts.specs.Words.{visit_words}
-use Rattle.debug_acts.specs.Walk.{steps_ahead, state_on, visit_lines}
 use Rattle.debug_acts.proofs.LineLemmas.{more_lines}
+
+pub least_second : (m n : ℕ) → n ≤ m → n ≡ smaller_of m n
+least_second m n l = let e = le-ltb m n l in rw e refl
+
+pub least_within : (m n : ℕ) → smaller_of m n ≤ n
+least_within m n = step (cases_lt m n)
+  where
+    step : (m < n) ⊎ (n ≤ m) → smaller_of m n ≤ n
+    step (inl h) = let e = lt-ltb m n h in rw e (omega arith)
+    step (inr h) = let e = le-ltb m n h in rw e (omega arith)
+
+pub least_first : (m n : ℕ) → smaller_of m n ≤ m
+least_first m n = step (cases_lt m n)
+  where
+    step : (m < n) ⊎ (n ≤ m) → smaller_of m n ≤ m
+    step (inl h) = let e = lt-ltb m n h in rw e (omega arith)
+    step (inr h) = let e = le-ltb m n h in rw e h
+
+pub least_both : (k m n : ℕ) → k ≤ m → k ≤ n → k ≤ smaller_of m n
+least_both k m n a b = step (cases_lt m n)
+  where
+    step : (m < n) ⊎ (n ≤ m) → k ≤ smaller_of m n
+    step (inl h) = let e = lt-ltb m n h in rw e a
+    step (inr h) = let e = le-ltb m n h in rw e b
+
+pub least_first_is : (m n : ℕ) → m ≤ n → m ≡ smaller_of m n
+least_first_is m n l = let a = least_both m m n (le_refl m) l in let b = least_first m n in omega arith
+
+pub not_zero : (n : ℕ) → false ≡ (n == 0) → 0 < n
+not_zero zero e = absurd (cc)
+not_zero (suc n) e = omega arith
+
+-- nothing is left of so many exactly where all are gone
+pub none_left : (gone all left : ℕ) → gone ≤ all → left ≡ all - gone → (left == 0) ≡ (gone == all)
+none_left gone all zero l e = let f : gone ≡ all = omega arith in rw (eq-eqb gone all f) refl
+none_left gone all (suc n) l e = ne_eqb (suc n) 0 (λ f. omega arith) ∙ sym (ne_eqb gone all (λ f. omega arith))
 
 -- a runner that can go on: its position and its branch's end are states of the run, and it doesn't stand after its end
 pub record CanWalk (r : RunnerValue) : Type 0 where
@@ -53,32 +90,12 @@ module _ (r : RunnerValue) (k : CanWalk r) where
   pub ahead_is : (n : ℕ) → n ≤ steps_ahead r → steps_between r.problem (state_on r n) (end_of r.branch.hi) ≡ steps_ahead r - n
   ahead_is n l = steps_between_is r.problem (state_on r n) (end_of r.branch.hi) (steps_ahead r - n) (on_fits n) (left_ahead n l)
 
-  -- at the end, all steps were gone, and elsewhere not
-  pub all_gone : (n : ℕ) → n ≤ steps_ahead r → state_on r n ≡ end_of r.branch.hi → n ≡ steps_ahead r
-  all_gone n l e =
-      let a = ahead_is n l in
-      let b : steps_between r.problem (state_on r n) (end_of r.branch.hi) ≡ 0 = ap (λ s. steps_between r.problem s (end_of r.branch.hi)) e ∙ steps_between_self r.problem (end_of r.branch.hi) k.end_fits in
-      omega arith
-
-  pub not_all : (n : ℕ) → n ≤ steps_ahead r → (state_on r n ≡ end_of r.branch.hi → ⊥) → n < steps_ahead r
-  not_all n l h = step (cases_lt n (steps_ahead r))
-    where
-      step : (n < steps_ahead r) ⊎ (steps_ahead r ≤ n) → n < steps_ahead r
-      step (inl m) = m
-      step (inr m) =
-          let e : n ≡ steps_ahead r = omega arith in
-          absurd (h (ap (λ i. after r.problem i r.position) e ∙ to_end.ends))
-
   -- at its branch's end nothing is ahead, and elsewhere some steps are
-  pub none_ahead : r.position ≡ end_of r.branch.hi → steps_ahead r ≡ 0
-  none_ahead e = sym (all_gone 0 (omega arith) e)
-
-  pub some_ahead : (r.position ≡ end_of r.branch.hi → ⊥) → 0 < steps_ahead r
-  some_ahead h = not_all 0 (omega arith) h
-
   pub end_tells : (test : Bool) → IsTrue test ↔ (r.position ≡ end_of r.branch.hi) → (steps_ahead r == 0) ≡ test
-  end_tells true d = eq-eqb (steps_ahead r) 0 (none_ahead (d.0 refl))
-  end_tells false d = let l = some_ahead (λ e. false≢true (d.1 e)) in ne_eqb (steps_ahead r) 0 (λ e. omega arith)
+  end_tells true d =
+      eq-eqb (steps_ahead r) 0 (ap (λ s. steps_between r.problem s (end_of r.branch.hi)) (d.0 refl) ∙ steps_between_self r.problem (end_of r.branch.hi) k.end_fits)
+  end_tells false d =
+      ne_eqb (steps_ahead r) 0 (λ e. false≢true (d.1 (ap (λ n. after r.problem n r.position) (sym e) ∙ to_end.ends)))
 
   -- no visits yet
   pub no_lines : visit_lines r.problem r.position (state_on r 0) ≡ []

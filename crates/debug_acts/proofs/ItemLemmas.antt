@@ -15,7 +15,7 @@ use Rattle.cover_problem.proofs.RemainingLemmas.{choice_active}
 use Rattle.cover_problem.proofs.CoveredLemmas.{covered_push}
 use Rattle.cover_problem.proofs.PathLemmas.{covered_path, covered_taken}
 use Rattle.x_steps.specs.declared.state.Label.{Label}
-use Rattle.x_steps.specs.declared.state.Label.TheVariants.{X1, X2, X3, X4, X5, X6, X7, X8, Done}
+use Rattle.x_steps.specs.declared.state.Label.TheVariants.{X4, X5, X6, X7}
 use Rattle.x_steps.specs.declared.state.Cursor.{Cursor}
 use Rattle.x_steps.specs.declared.state.Cursor.TheVariants as cursor
 use Rattle.x_steps.specs.declared.state.Cursor.TheVariants.{At, Past}
@@ -48,21 +48,14 @@ module _ (p : ProblemValue) (sound : IsProblem p) where
   with_chosen path c o = covered_push p (covered_by p path) (item_after p path) c (chosen_uncovered path o)
 
   covered_list_at : (l : Label) (path : List ℕ) (k : Cursor) → FitsAt p l path k → IsCoveredList p (covered_at p l path k)
-  covered_list_at X1 path k f = covered_path_at X1 path k f
-  covered_list_at X2 path k f = covered_path_at X2 path k f
-  covered_list_at X3 path k f = covered_path_at X3 path k f
-  covered_list_at X4 path k f = covered_path_at X4 path k f
   covered_list_at X5 path (At o) f = with_chosen path (covered_path_at X5 path (At o) f) f.1.active
   covered_list_at X5 path Past f = with_chosen path (covered_path_at X5 path Past f) f.1
   covered_list_at X5 path cursor.None f = absurd f
   covered_list_at X6 path (At o) f = covered_taken p (covered_by p path) o sound (covered_path_at X6 path (At o) f) f.1
-  covered_list_at X6 path Past f = absurd f
-  covered_list_at X6 path cursor.None f = absurd f
   covered_list_at X7 path cursor.None f = with_chosen path (covered_path_at X7 path cursor.None f) f.1
-  covered_list_at X7 path (At o) f = absurd f
-  covered_list_at X7 path Past f = absurd f
-  covered_list_at X8 path k f = covered_path_at X8 path k f
-  covered_list_at Done path k f = covered_path_at Done path k f
+  covered_list_at X6 path _ f = absurd f
+  covered_list_at X7 path _ f = absurd f
+  covered_list_at l path k f = covered_path_at l path k f
 
   covered_list : (s : StateValue) → Fits p s → IsCoveredList p (covered_in p s)
   unfolding covered_in
@@ -85,22 +78,15 @@ module _ (p : ProblemValue) (sound : IsProblem p) where
 
   chosen_open : (l : Label) (path : List ℕ) (k : Cursor) → FitsAt p l path k → is_chosen l ≡ true → IsOpen p path
   chosen_open X4 path cursor.None f e = f.1
-  chosen_open X4 path (At o) f e = absurd f
-  chosen_open X4 path Past f e = absurd f
   chosen_open X5 path (At o) f e = f.1.active
   chosen_open X5 path Past f e = f.1
-  chosen_open X5 path cursor.None f e = absurd f
   chosen_open X6 path (At o) f e = f.1.active
-  chosen_open X6 path Past f e = absurd f
-  chosen_open X6 path cursor.None f e = absurd f
   chosen_open X7 path cursor.None f e = f.1
-  chosen_open X7 path (At o) f e = absurd f
-  chosen_open X7 path Past f e = absurd f
-  chosen_open X1 path k f e = absurd (cc)
-  chosen_open X2 path k f e = absurd (cc)
-  chosen_open X3 path k f e = absurd (cc)
-  chosen_open X8 path k f e = absurd (cc)
-  chosen_open Done path k f e = absurd (cc)
+  chosen_open X4 path _ f e = absurd f
+  chosen_open X5 path _ f e = absurd f
+  chosen_open X6 path _ f e = absurd f
+  chosen_open X7 path _ f e = absurd f
+  chosen_open _ path _ f e = absurd (cc)
 
   chosen_row : (s : StateValue) (row : ℕ × List ℕ) → Fits p s → Some row ≡ chosen_in p s → (0 < row.0) × (row.0 ≤ length p.names)
   unfolding chosen_in chosen_item

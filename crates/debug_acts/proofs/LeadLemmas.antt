@@ -2,6 +2,7 @@
 use Rattle.std.proofs.Common.{◌≡◌, ℕ, zero, suc, ◌+◌, ◌-◌, ◌*◌, ◌≤◌, ◌<◌, ◌==◌, inl, inr, Bool, true, false, cond, Option, Some, Result, Ok, Err, List, [], ◌∷◌, ◌++◌, length, take, unwrap_or, refl, sym, ap, ap₂, ◌∙◌, subst, arith, append_assoc, append-nil, eqb-true, eq-eqb, le_refl}
 use Rattle.std.specs.Result.{IsErrAnd}
 use Rattle.std.proofs.Math.Seq.{take-append-add, take-length}
+use Rattle.std.proofs.lemmas.Bool.{false_from_ne_true}
 use Rattle.std.proofs.lemmas.List.{length-append, take-append-le, map-append}
 use Rattle.cover_problem.proofs.ProblemLemmas.{is_same_decides}
 use Rattle.x_steps.specs.Steps.{next}
@@ -121,6 +122,14 @@ forth u = work u.book (moved_to u.worker (next u.worker.runner.problem u.worker.
 abbrev pub spent : AtWork → ℕ
 spent u = most_steps * length u.book.history + unposted_steps u.worker.runner
 
+-- these acts make room for a step: a worker at work, which perhaps has another mark
+pub record HasRoom (u : AtWork) (acts : List Act) (v : AtWork) : Type 0 where
+  pub leads : LeadsTo u acts v
+  pub sound : IsWork v
+  pub same : v.worker ≡ marked_at u.worker v.worker.runner.mark
+  pub free : (unposted_steps v.worker.runner == most_steps) ≡ false
+  pub spends : spent v ≡ spent u
+
 module _ (u : AtWork) (s : IsWork u) where
   abbrev x : WorkerValue
   x = u.worker
@@ -139,28 +148,6 @@ module _ (u : AtWork) (s : IsWork u) where
       one_act u.book (work_posted u).book (Some x) (Some (work_posted u).worker) Post (ap (book_step u.book x.grant.worker) same_call)
       (ap (λ (c : Call). after_post x (outcome u.book x.grant.worker c).reply) same_call
       ∙ ap (λ (o : Outcome). after_post x o.reply) (granted u s))
-
-  pub room_leads : LeadsTo u (room_acts x) (with_room u)
-  room_leads = by is_full
-    where
-      by : (v : Bool) → LeadsTo u (cond v (Post ∷ []) []) (cond v (work_posted u) u)
-      by true = post_leads
-      by false = refl
-
-  pub room_work : IsWork (with_room u)
-  room_work = by is_full
-    where
-      by : (v : Bool) → IsWork (cond v (work_posted u) u)
-      by true = posted_work u s
-      by false = s
-
-  pub room_worker : (with_room u).worker ≡ marked_at x (with_room u).worker.runner.mark
-  unfolding work_posted
-  room_worker = by is_full
-    where
-      by : (v : Bool) → (cond v (work_posted u) u).worker ≡ marked_at x (cond v (work_posted u) u).worker.runner.mark
-      by true = refl
-      by false = refl
 
   -- a stretch that is full is posted, or nothing is
   pub room_made : unposted_steps x.runner ≡ most_steps → (new : BookValue) (y : WorkerValue) (r : Posted)
@@ -183,37 +170,32 @@ module _ (u : AtWork) (s : IsWork u) where
   unfolding work_posted
   none_unposted = steps_between_self x.runner.problem x.runner.position (here_fits u s)
 
-  room_free : (unposted_steps (with_room u).worker.runner == most_steps) ≡ false
-  room_free = by is_full refl
-    where
-      by : (v : Bool) → is_full ≡ v → (unposted_steps (cond v (work_posted u) u).worker.runner == most_steps) ≡ false
-      by true e = ap (λ (n : ℕ). n == most_steps) none_unposted
-      by false e = e
-
   posted_entries : length (work_posted u).book.history ≡ length u.book.history + 1
   unfolding work_posted
   posted_entries = length-append u.book.history _
 
-  room_spent : spent (with_room u) ≡ spent u
-  room_spent = by is_full refl
+  pub room : HasRoom u (room_acts x) (with_room u)
+  unfolding work_posted
+  room = by is_full refl
     where
-      by : (v : Bool) → is_full ≡ v → spent (cond v (work_posted u) u) ≡ spent u
-      by true e = let full = eqb-true (unposted_steps x.runner) most_steps e in let n = none_unposted in let m = posted_entries in omega arith
-      by false e = refl
+      by : (v : Bool) → is_full ≡ v → HasRoom u (cond v (Post ∷ []) []) (cond v (work_posted u) u)
+      by true e = record {
+        leads = post_leads;
+        sound = posted_work u s;
+        same = refl;
+        free = ap (λ (n : ℕ). n == most_steps) none_unposted;
+        spends = let full = eqb-true (unposted_steps x.runner) most_steps e in let n = none_unposted in let m = posted_entries in omega arith;
+      }
+      by false e = record { leads = refl; sound = s; same = refl; free = e; spends = refl }
 
   -- ---- one step
 
   -- where steps lie ahead it isn't at the end
   not_ended : 0 < steps_ahead x.runner → same_state x.runner.position (end_of x.runner.branch.hi) ≡ false
-  not_ended some = by (same_state x.runner.position (end_of x.runner.branch.hi)) refl
-    where
-      by : (b : Bool) → same_state x.runner.position (end_of x.runner.branch.hi) ≡ b → b ≡ false
-      by false e = refl
-      by true e =
-          let none : steps_ahead x.runner ≡ 0 =
-          ap (steps_between x.runner.problem x.runner.position) (sym (same_state_is x.runner.position (end_of x.runner.branch.hi) e))
-          ∙ steps_between_self x.runner.problem x.runner.position (here_fits u s) in
-          absurd (omega arith)
+  not_ended some = false_from_ne_true _ (λ e.
+      let none : steps_ahead x.runner ≡ 0 =
+      ap (steps_between x.runner.problem x.runner.position) (sym (same_state_is x.runner.position (end_of x.runner.branch.hi) e))
+      ∙ steps_between_self x.runner.problem x.runner.position (here_fits u s) in omega arith)
 
   -- where there is room for it
   step_leads : 0 < steps_ahead x.runner → is_full ≡ false → LeadsTo u (Step ∷ []) (forth u)
@@ -222,29 +204,20 @@ module _ (u : AtWork) (s : IsWork u) where
       let ahead = not_ended some in
       one_act u.book u.book (Some x) (Some (forth u).worker) Step (rw (ahead, room) refl) (rw (ahead, room) refl)
 
--- the acts of a step
-pub step_is : (w : WorkerValue) → step_acts (Some w) ≡ room_acts w ++ Step ∷ []
-step_is w = by (unposted_steps w.runner == most_steps)
-  where
-    by : (v : Bool) → cond v (Post ∷ Step ∷ []) (Step ∷ []) ≡ cond v (Post ∷ []) [] ++ Step ∷ []
-    by true = refl
-    by false = refl
-
 module _ (u : AtWork) (s : IsWork u) (some : 0 < steps_ahead u.worker.runner) where
   ahead_still : 0 < steps_ahead (with_room u).worker.runner
-  ahead_still = let e = ap (λ (w : WorkerValue). steps_ahead w.runner) (room_worker u s) in omega arith
+  ahead_still = let e = ap (λ (w : WorkerValue). steps_ahead w.runner) (room u s).same in omega arith
 
   one_step : LeadsTo u (step_acts (Some u.worker)) (forth (with_room u))
   one_step =
-      subst (λ (acts : List Act). LeadsTo u acts (forth (with_room u))) (sym (step_is u.worker))
-      (then_to u (with_room u) (forth (with_room u)) (room_acts u.worker) (Step ∷ []) (room_leads u s)
-      (step_leads (with_room u) (room_work u s) ahead_still (room_free u s)))
+      then_to u (with_room u) (forth (with_room u)) (room_acts u.worker) (Step ∷ []) (room u s).leads
+      (step_leads (with_room u) (room u s).sound ahead_still (room u s).free)
 
   step_work : IsWork (forth (with_room u))
-  step_work = moved_work (with_room u) (room_work u s) _ (next_runner (with_room u) (room_work u s) ahead_still)
+  step_work = moved_work (with_room u) (room u s).sound _ (next_runner (with_room u) (room u s).sound ahead_still)
 
   one_spent : spent (forth (with_room u)) ≡ suc (spent u)
-  one_spent = let n = one_unposted (with_room u) (room_work u s) ahead_still in let m = room_spent u s in omega arith
+  one_spent = let n = one_unposted (with_room u) (room u s).sound ahead_still in let m = (room u s).spends in omega arith
 
 -- ---- many steps
 
@@ -280,7 +253,7 @@ module _ (u : AtWork) (s : IsWork u) where
       record {
         leads = subst (λ (xs : List Act). LeadsTo u xs (forth (with_room v))) (sym (next_acts n v c.leads))
             (then_to u v (forth (with_room v)) (acts n) (step_acts (Some v.worker)) c.leads (one_step v c.sound some));
-        at = ap on (room_worker v c.sound) ∙ ap (λ (w : WorkerValue). marked_at (on w) (with_room v).worker.runner.mark) c.at;
+        at = ap on (room v c.sound).same ∙ ap (λ (w : WorkerValue). marked_at (on w) (with_room v).worker.runner.mark) c.at;
         sound = step_work v c.sound some;
         counted = let e = one_spent v c.sound some in let f = c.counted in omega arith;
       }

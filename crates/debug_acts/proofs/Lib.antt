@@ -2,7 +2,6 @@ pub mod MetLemmas
 pub mod PlaceLemmas
 pub mod ItemLemmas
 pub mod LineLemmas
-pub mod CountLemmas
 pub mod ForwardLemmas
 pub mod CallLemmas
 pub mod WorkLemmas
@@ -12,6 +11,5 @@ pub mod WalkedLemmas
 pub mod RunLemmas
 pub mod AnswerLemmas
 pub mod BackLemmas
-pub mod PartLemmas
 pub mod SaveLemmas
 mod ActExamples

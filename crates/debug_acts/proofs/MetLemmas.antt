@@ -7,7 +7,8 @@ use Rattle.x_steps.specs.declared.state.Label.TheVariants.{X2, X4, X5}
 use Rattle.x_steps.specs.declared.state.Cursor.{Cursor}
 use Rattle.x_steps.specs.declared.state.Cursor.TheVariants as cursor
 use Rattle.x_steps.specs.StateValue.{StateValue}
-use Rattle.x_steps.specs.Steps.{Fits, is_visit, item_after}
+use Rattle.cover_problem.specs.Covering.{list_of}
+use Rattle.x_steps.specs.Steps.{Fits, is_visit, item_after, covered_in}
 use Rattle.x_steps.specs.Machine.{chosen_in, chosen_item}
 use Rattle.x_texts.specs.declared.breakpoint.Break.{Break}
 use Rattle.x_texts.specs.declared.breakpoint.Break.TheVariants as at
@@ -71,31 +72,17 @@ module _ (p : ProblemValue) (s : StateValue) where
   none_meets x2 x4 x5 _ = rw (not_level s.label x2) refl
 
   -- the chosen item is the one of the path
-  is_there : Option (ℕ × List ℕ) → Bool
-  is_there None = false
-  is_there (Some row) = true
+  chosen_there : s.label ≡ X4 → chosen_in p s ≡ Some (item_after p s.path, list_of p (covered_in p s) (item_after p s.path))
+  unfolding chosen_item chosen_in
+  chosen_there l = rw l refl
 
-  pub first_or : ℕ → Option (ℕ × List ℕ) → ℕ
-  first_or i None = i
-  first_or i (Some row) = row.0
+  chosen_is : s.label ≡ X4 → (i : ℕ) (os : List ℕ) → Some (i, os) ≡ chosen_in p s → i ≡ item_after p s.path
+  chosen_is l i os h =
+      let e = h ∙ chosen_there l in
+      let q : (i, os) ≡ (item_after p s.path, list_of p (covered_in p s) (item_after p s.path)) = cc in ap (λ (row : ℕ × List ℕ). row.0) q
 
-  pub first_row : (i : ℕ) (os : List ℕ) → first_or i (Some (i, os)) ≡ i
-  unfolding first_or
-  first_row i os = refl
-
-  chosen_first : s.label ≡ X4 → (i : ℕ) → first_or i (chosen_in p s) ≡ item_after p s.path
-  unfolding chosen_item first_or chosen_in
-  chosen_first l i = rw l refl
-
-  chosen_is : s.label ≡ X4 → (i : ℕ) (o : Option (ℕ × List ℕ)) → first_or i o ≡ i → o ≡ chosen_in p s → i ≡ item_after p s.path
-  chosen_is l i o f h = sym f ∙ ap (first_or i) h ∙ chosen_first l i
-
-  -- none is chosen only elsewhere
   pub some_chosen : s.label ≡ X4 → None ≡ chosen_in p s → ⊥
-  unfolding chosen_item is_there chosen_in
-  some_chosen l h = absurd (arith_no (ap is_there h ∙ rw l refl)) where
-    arith_no : false ≡ true → ⊥
-    arith_no e = cc
+  some_chosen l h = let e = h ∙ chosen_there l in cc
 
   -- ---- the answers
   module _ (bs : List Break) where
@@ -106,8 +93,8 @@ module _ (p : ProblemValue) (s : StateValue) where
     pub met_at_level : (n : ℕ) → n ≡ length s.path → s.label ≡ X2 → is_visit p s ≡ false → find (is_same (at.Level n)) bs ≡ first_met p bs s
     met_at_level n e l v = rw e (find_alike (is_same (at.Level (length s.path))) (meets p s) bs (λ b. sym (level_meets l v b)))
 
-    pub met_at_choice : s.label ≡ X4 → (i : ℕ) (o : Option (ℕ × List ℕ)) → first_or i o ≡ i → o ≡ chosen_in p s → find (is_same (at.Item i)) bs ≡ first_met p bs s
-    met_at_choice l i o f h = rw (chosen_is l i o f h) (find_alike (is_same (at.Item (item_after p s.path))) (meets p s) bs (λ b. sym (choice_meets l b)))
+    pub met_at_choice : s.label ≡ X4 → (i : ℕ) (os : List ℕ) → Some (i, os) ≡ chosen_in p s → find (is_same (at.Item i)) bs ≡ first_met p bs s
+    met_at_choice l i os h = rw (chosen_is l i os h) (find_alike (is_same (at.Item (item_after p s.path))) (meets p s) bs (λ b. sym (choice_meets l b)))
 
     -- where the choice of an item is no breakpoint, none is met there
     item_is_choice : (i : ℕ) (b : Break) → is_item_break b ≡ false → is_same (at.Item i) b ≡ false

@@ -1,8 +1,8 @@
 -- The tiles of a book begin in the order in which they stand, so the one that begins at a cut is found by halves.
-use Rattle.std.proofs.Common.{◌≡◌, ℕ, zero, suc, ◌<◌, ◌≤◌, Bool, true, false, not, Option, Some, None, List, [], ◌∷◌, length, get_or, refl, sym, ap, ◌∙◌, subst, inl, inr, arith}
+use Rattle.std.proofs.Common.{◌≡◌, ℕ, zero, suc, ◌<◌, ◌≤◌, true, false, not, Option, Some, None, List, [], ◌∷◌, length, get_or, refl, sym, ap, ◌∙◌, subst, inl, inr, arith}
 use Rattle.std.specs.Cmp.Lexicographic.{bytes_decides}
 use Rattle.std.proofs.lemmas.List.{get_or_default}
-use Rattle.std.proofs.lemmas.Bool.{cases_lt, and_parts, false≢true}
+use Rattle.std.proofs.lemmas.Bool.{cases_lt, and_parts, false≢true, false_from_ne_true}
 use Rattle.cover_problem.specs.Problem.{ProblemValue}
 use Rattle.x_steps.specs.StateValue.{StateValue}
 use Rattle.x_steps.specs.Steps.{Fits}
@@ -120,26 +120,15 @@ begun_begins lo t h = same (cut_path t.branch.lo) lo (and_parts (not (is_closed 
 -- where one place alone may be that of a tile that begins at a cut, it is looked at
 module _ (lo : Option (List ℕ)) (ts : List TileValue) (i : ℕ) (only : (j : ℕ) → BeginsAt lo ts j → j ≡ i) where
   no_other : (j : ℕ) → j < length ts → (j ≡ i → ⊥) → is_begun_at lo (tile_at ts j) ≡ false
-  no_other j l other = by (is_begun_at lo (tile_at ts j)) refl
-    where
-      by : (v : Bool) → is_begun_at lo (tile_at ts j) ≡ v → v ≡ false
-      by false e = refl
-      by true e = absurd (other (only j (l, begun_begins lo (tile_at ts j) e)))
+  no_other j l other = false_from_ne_true _ (λ e. other (only j (l, begun_begins lo (tile_at ts j) e)))
 
   pub placed : i < length ts → is_begun_at lo (tile_at ts i) ≡ true → place_at lo ts ≡ Some i
   placed l h = position_at (is_begun_at lo) ts i no_tile l (λ k m. no_other k (omega (arith, l, m)) (λ e. absurd (omega (arith, m, e)))) h
 
   pub not_placed : is_begun_at lo (tile_at ts i) ≡ false → place_at lo ts ≡ None
-  not_placed h = position_none (is_begun_at lo) ts no_tile each
-    where
-      each : (k : ℕ) → k < length ts → is_begun_at lo (tile_at ts k) ≡ false
-      each k l = by (is_begun_at lo (tile_at ts k)) refl
-        where
-          by : (v : Bool) → is_begun_at lo (tile_at ts k) ≡ v → v ≡ false
-          by false e = refl
-          by true e =
-              let same = only k (l, begun_begins lo (tile_at ts k) e) in
-              absurd (false≢true (sym h ∙ subst (λ (j : ℕ). is_begun_at lo (tile_at ts j) ≡ true) same e))
+  not_placed h = position_none (is_begun_at lo) ts no_tile (λ k l. false_from_ne_true _ (λ e.
+      let same = only k (l, begun_begins lo (tile_at ts k) e) in
+      false≢true (sym h ∙ subst (λ (j : ℕ). is_begun_at lo (tile_at ts j) ≡ true) same e)))
 
   pub none_placed : length ts ≤ i → place_at lo ts ≡ None
   none_placed long = position_none (is_begun_at lo) ts no_tile (λ k l. no_other k l (λ e. absurd (omega (arith, long, l, e))))

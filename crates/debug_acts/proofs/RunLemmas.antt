@@ -12,13 +12,12 @@ use Rattle.x_steps.specs.Steps.{next}
 use Rattle.x_steps.specs.Run.{after, states}
 use Rattle.x_steps.proofs.RunLemmas.{after_shift}
 use Rattle.x_steps.proofs.BetweenLemmas.{length-states}
-use Rattle.x_branches.specs.Branch.{end_of}
 use Rattle.x_branches.specs.Runner.{RunnerValue}
 use Rattle.x_texts.specs.declared.breakpoint.Break.{Break}
 use Rattle.debug_acts.specs.Breakpoints.{first_met, meets_one, steps_to_break}
 use Rattle.debug_acts.specs.Walk.{AreSomeSteps, steps_ahead, state_on, smaller_of, step_count, stride, run_count}
 use Rattle.debug_acts.specs.Acts.{walk_acts, Walks, WalksPart}
-use Rattle.debug_acts.proofs.CountLemmas.{least_first, least_within}
+use Rattle.debug_acts.proofs.ForwardLemmas.{least_first, least_within}
 use Rattle.debug_acts.proofs.WorkLemmas.{AtWork, IsWork}
 use Rattle.debug_acts.proofs.LeadLemmas.{begun, all_part, walk_part}
 use Rattle.debug_acts.proofs.WalkedLemmas.{Walked, none_walked, same_runner, ended, not_ended, left, part_on}
@@ -159,19 +158,21 @@ module _ (u : AtWork) (breaks : List Break) (n : ℕ) (v : AtWork) (old new : Li
   run = u.worker.runner
 
   -- at the end no state met a breakpoint
-  pub run_to_end : 0 < steps_ahead run → v.worker.runner.position ≡ end_of v.worker.runner.branch.hi → n ≡ run_count breaks run
+  pub run_to_end : 0 < steps_ahead run → true ≡ (steps_ahead v.worker.runner == 0) → n ≡ run_count breaks run
   run_to_end some e = by n (ended u n v old new w.walked e) w.unmet
     where
       by : (m : ℕ) → m ≡ steps_ahead run → Unmet run breaks m → m ≡ run_count breaks run
       by zero h x = absurd (omega arith)
       by (suc m) h x = stops_at run breaks m (omega arith) (λ i a b. x i a (omega arith)) (λ l. absurd (omega arith))
 
-  pub none_met : (m : ℕ) → 0 < steps_ahead run → v.worker.runner.position ≡ end_of v.worker.runner.branch.hi → n ≡ m
-      → None ≡ first_met run.problem breaks (state_on run m)
-  none_met m some e h = let all = ended u n v old new w.walked e in sym (w.unmet m (omega arith) (omega arith))
+  pub none_met : 0 < steps_ahead run → true ≡ (steps_ahead v.worker.runner == 0)
+      → None ≡ first_met run.problem breaks (state_on run (run_count breaks run))
+  none_met some e =
+      let all = ended u n v old new w.walked e in
+      let m = run_to_end some e in sym (w.unmet (run_count breaks run) (omega arith) (omega arith))
 
   -- elsewhere it goes as far as it does at once
-  pub run_part : (go : v.worker.runner.position ≡ end_of v.worker.runner.branch.hi → ⊥) (c : AtWork)
+  pub run_part : (go : false ≡ (steps_ahead v.worker.runner == 0)) (c : AtWork)
       → WalksPart v.book v.worker (step_count v.worker.runner (stride breaks)) c.book c.worker → WalksPart u.book u.worker (run_count breaks run) c.book c.worker
   run_part go c p = part_on u n v old new w.walked (step_count v.worker.runner (stride breaks)) (run_count breaks run) c p (by breaks refl)
     where
@@ -187,7 +188,7 @@ module _ (u : AtWork) (breaks : List Break) (n : ℕ) (v : AtWork) (old new : Li
 
   -- where it is left when what is met can't be looked for
   pub met_part : (m : ℕ) (c : AtWork) → AreSomeSteps m (step_count v.worker.runner (stride breaks))
-      → (go : v.worker.runner.position ≡ end_of v.worker.runner.branch.hi → ⊥) → Walks v.book v.worker m c.book c.worker
+      → (go : false ≡ (steps_ahead v.worker.runner == 0)) → Walks v.book v.worker m c.book c.worker
       → WalksPart u.book u.worker (run_count breaks run) c.book c.worker
   met_part m c some go led =
       run_part go c (walk_part v 0 v refl m (step_count v.worker.runner (stride breaks)) c (let l = some.1 in omega arith)

@@ -1,15 +1,13 @@
 -- A walk that has gone some steps: what it made of a book, a worker and a text, and how it goes on and ends.
-use Rattle.std.proofs.Common.{◌≡◌, ℕ, ◌+◌, ◌-◌, ◌^◌, ◌<◌, ◌≤◌, Some, List, ◌++◌, length, refl, sym, ◌∙◌, ap, ap₂, subst, arith, append_assoc, append-nil}
+use Rattle.std.proofs.Common.{◌≡◌, ℕ, ◌+◌, ◌-◌, ◌^◌, ◌<◌, ◌≤◌, ◌==◌, true, false, Some, List, ◌++◌, length, refl, sym, ◌∙◌, ap, ap₂, subst, arith, append_assoc, append-nil, eqb-true}
 use Rattle.text_lines.specs.Writing.{text_of}
 use Rattle.x_steps.specs.Run.{after}
-use Rattle.x_branches.specs.Branch.{end_of}
 use Rattle.x_branches.specs.Runner.{RunnerValue, unposted_steps}
 use Rattle.lab_world.specs.Worker.{WorkerValue}
 use Rattle.lab_world.specs.World.{IsSeat}
 use Rattle.debug_acts.specs.Walk.{AreSomeSteps, steps_ahead, state_on, visit_lines, visits_on, step_count}
 use Rattle.debug_acts.specs.Acts.{Walks, WalksPart}
-use Rattle.debug_acts.proofs.CountLemmas.{least_second, least_within, least_first, least_both}
-use Rattle.debug_acts.proofs.ForwardLemmas.{all_gone, not_all, no_lines, lines_join}
+use Rattle.debug_acts.proofs.ForwardLemmas.{least_second, least_within, least_first, least_both, not_zero, no_lines, lines_join}
 use Rattle.debug_acts.proofs.WorkLemmas.{AtWork, IsWork, can_walk}
 use Rattle.debug_acts.proofs.LeadLemmas.{Came, left_ahead, came_to, walk_join, walk_part}
 
@@ -30,35 +28,22 @@ none_walked u text s = record {
   seat = (refl, s.holds);
 }
 
--- a runner that is read from a worker stands at the end where that does
-pub read_end : (r s : RunnerValue) → r ≡ s → r.position ≡ end_of r.branch.hi → s.position ≡ end_of s.branch.hi
-read_end r s e h = subst (λ (t : RunnerValue). t.position ≡ end_of t.branch.hi) e h
-
 module _ (u : AtWork) (n : ℕ) (v : AtWork) (old new : List ℕ) (w : Walked u n v old new) where
   abbrev run : RunnerValue
   run = u.worker.runner
 
   pub same_runner : (v.worker.runner.problem ≡ run.problem) × (v.worker.runner.position ≡ state_on run n)
-      × (end_of v.worker.runner.branch.hi ≡ end_of run.branch.hi)
-  same_runner = (
-    ap (λ (x : WorkerValue). x.runner.problem) w.came.at,
-    ap (λ (x : WorkerValue). x.runner.position) w.came.at,
-    ap (λ (x : WorkerValue). end_of x.runner.branch.hi) w.came.at,
-  )
-
-  -- at the end of its branch it has gone all steps, and elsewhere not
-  pub ended : v.worker.runner.position ≡ end_of v.worker.runner.branch.hi → n ≡ steps_ahead run
-  ended e = all_gone run (can_walk u w.sound) n w.within (sym same_runner.1 ∙ e ∙ same_runner.2)
-
-  pub not_ended : (v.worker.runner.position ≡ end_of v.worker.runner.branch.hi → ⊥) → n < steps_ahead run
-  not_ended h = not_all run (can_walk u w.sound) n w.within (λ e. h (same_runner.1 ∙ e ∙ sym same_runner.2))
+  same_runner = (ap (λ (x : WorkerValue). x.runner.problem) w.came.at, ap (λ (x : WorkerValue). x.runner.position) w.came.at)
 
   pub left : steps_ahead v.worker.runner ≡ steps_ahead run - n
   left = left_ahead u w.sound n v w.came w.within
 
-  -- elsewhere some are
-  pub ahead_of : (v.worker.runner.position ≡ end_of v.worker.runner.branch.hi → ⊥) → 0 < steps_ahead v.worker.runner
-  ahead_of h = let l = not_ended h in let e = left in omega arith
+  -- at the end of its branch it has gone all steps, and elsewhere not
+  pub ended : true ≡ (steps_ahead v.worker.runner == 0) → n ≡ steps_ahead run
+  ended e = let none = eqb-true (steps_ahead v.worker.runner) 0 (sym e) in let l = left in let m = w.within in omega arith
+
+  pub not_ended : false ≡ (steps_ahead v.worker.runner == 0) → n < steps_ahead run
+  not_ended e = let some = not_zero (steps_ahead v.worker.runner) e in let l = left in omega arith
 
   -- a call keeps the worker's number
   pub seat_on : (c : AtWork) → IsSeat c.book v.worker.grant.worker (Some c.worker) → IsSeat c.book u.worker.grant.worker (Some c.worker)
@@ -98,7 +83,7 @@ module _ (u : AtWork) (n : ℕ) (v : AtWork) (old new : List ℕ) (w : Walked u 
   -- ---- `step`
 
   -- at the end it has gone as many as there are
-  pub all_counted : (most : ℕ) → n ≤ most → v.worker.runner.position ≡ end_of v.worker.runner.branch.hi → n ≡ step_count run most
+  pub all_counted : (most : ℕ) → n ≤ most → true ≡ (steps_ahead v.worker.runner == 0) → n ≡ step_count run most
   all_counted most l e = let h = ended e in h ∙ least_second most (steps_ahead run) (omega arith)
 
   -- what can be gone of those that are left to ask for

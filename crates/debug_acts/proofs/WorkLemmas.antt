@@ -1,7 +1,7 @@
 -- A book and a worker that holds one of its tiles: where it stands in its tile, that the book doesn't refuse to post what it walked, and that it
 -- stays sound where that is posted, and where its search steps on or back.
-use Rattle.std.proofs.Common.{◌≡◌, ℕ, suc, ◌+◌, ◌-◌, ◌<◌, ◌≤◌, ◌⊎◌, inl, inr, Bool, true, false, None, Some, refl, sym, ap, ◌∙◌, subst, arith}
-use Rattle.std.proofs.lemmas.Bool.{cases_lt}
+use Rattle.std.proofs.Common.{◌≡◌, ℕ, suc, ◌+◌, ◌-◌, ◌<◌, ◌≤◌, ◌⊎◌, inl, inr, true, false, None, Some, refl, sym, ap, ◌∙◌, subst, arith}
+use Rattle.std.proofs.lemmas.Bool.{cases_lt, false_from_ne_true}
 use Rattle.cover_problem.specs.Problem.{ProblemValue}
 use Rattle.x_steps.specs.declared.state.Label.TheVariants.{Done}
 use Rattle.x_steps.specs.StateValue.{StateValue}
@@ -94,13 +94,7 @@ module _ (u : AtWork) (s : IsWork u) where
   within : comes_before u.book.problem (tile_end own) run.position ≡ false
   within =
       (λ j. comes_before (sym s.holds.problem j) (end_of (sym s.holds.tile.tile.branch j).hi) run.position)
-      ∙ by (comes_before run.problem (end_of run.branch.hi) run.position) refl
-    where
-      by : (v : Bool) → comes_before run.problem (end_of run.branch.hi) run.position ≡ v
-          → comes_before run.problem (end_of run.branch.hi) run.position ≡ false
-      by false e = e
-      by true e =
-          absurd (s.runner.position_in.not_past ((test_is_order run.problem (end_of run.branch.hi) run.position last_fits here_fits).0 e))
+      ∙ false_from_ne_true _ (λ e. s.runner.position_in.not_past ((test_is_order run.problem (end_of run.branch.hi) run.position last_fits here_fits).0 e))
 
   -- nothing stands against the post
   no_fault : stretch_fault u.book.problem run.mark run.position true own ≡ None

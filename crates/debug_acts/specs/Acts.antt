@@ -6,7 +6,6 @@
 use Rattle.std.specs.Prelude.{ℕ, zero, suc, ◌≤◌, ◌-◌, ◌==◌, nat_lt, Bool, false, if◌then◌else◌, Option, Some, None, List, [], ◌∷◌, ◌++◌, length, take, replicate, Result, OnOk, OnErr}
 use Rattle.x_branches.specs.Refusals.{most_steps}
 use Rattle.x_branches.specs.Runner.{unposted_steps}
-use Rattle.x_texts.specs.declared.breakpoint.Break.{Break}
 use Rattle.lab_book.specs.Tile.{TileValue, is_held}
 use Rattle.lab_book.specs.Book.{BookValue}
 use Rattle.lab_world.specs.declared.event.Act.{Act}
@@ -14,18 +13,18 @@ use Rattle.lab_world.specs.declared.event.Act.TheVariants.{Step, Back, Lease, Ta
 use Rattle.lab_world.specs.Worker.{WorkerValue, HoldsTile}
 use Rattle.lab_world.specs.World.{WorldValue, IsSeat, worker_at, played}
 use Rattle.lab_world.specs.Alone.{alone, own_events, Leads}
-use Rattle.debug_acts.specs.Walk.{steps_ahead, step_count, run_count, back_count}
+use Rattle.debug_acts.specs.Walk.{steps_ahead, back_count}
 
 -- ---- steps
 
--- a step of a worker, and before it a post where the stretch has as many steps as can be counted
-abbrev pub step_acts : Option WorkerValue → List Act
-step_acts None = []
-step_acts (Some w) = if unposted_steps w.runner == most_steps then Post ∷ Step ∷ [] else Step ∷ []
-
--- that post alone, where it is to be made
+-- a post, where a worker's stretch has as many steps as can be counted
 abbrev pub room_acts : WorkerValue → List Act
 room_acts w = if unposted_steps w.runner == most_steps then Post ∷ [] else []
+
+-- and a step of that worker
+abbrev pub step_acts : Option WorkerValue → List Act
+step_acts None = []
+step_acts (Some w) = room_acts w ++ Step ∷ []
 
 -- so many steps, each from where those before it led
 abbrev pub walk_acts : ℕ → WorldValue → List Act
@@ -99,14 +98,6 @@ WalksPart b w n c v = LeadsPart b (Some w) (walk_acts n (alone b (Some w))) c (S
 -- a call takes so many steps; where it has an error, it has played some first acts of them
 abbrev pub PlaysWalk : {X E : Type 0} → Result X E → BookValue → WorkerValue → ℕ → BookValue → WorkerValue → Type 0
 PlaysWalk result b w n c v = Plays result b (Some w) (walk_acts n (alone b (Some w))) c (Some v)
-
--- `step` takes its steps where n are asked for
-abbrev pub PlaysStep : {X E : Type 0} → Result X E → BookValue → WorkerValue → ℕ → BookValue → WorkerValue → Type 0
-PlaysStep result b w n c v = PlaysWalk result b w (step_count w.runner n) c v
-
--- `run` takes its steps with these breakpoints
-abbrev pub PlaysRun : {X E : Type 0} → Result X E → BookValue → WorkerValue → List Break → BookValue → WorkerValue → Type 0
-PlaysRun result b w breaks c v = PlaysWalk result b w (run_count breaks w.runner) c v
 
 -- so many steps back lead a worker there, whatever its book is
 abbrev pub WalksBack : WorkerValue → ℕ → WorkerValue → Type 0

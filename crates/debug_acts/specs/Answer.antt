@@ -1,11 +1,20 @@
--- What one act of worker 0 is answered: the line of its refusal (`refusals`), or else lines of what it left (`told_lines`).
+-- What one act of worker 0 is answered: the line of its refusal (`refusals`), or else lines of what it left (`told_lines`); and what is
+-- answered where a branch is given up: the text of `save`, a snapshot after the number of its lines, and the line of `close`.
 --
--- Example: at the start of the small problem's new book a retract is refused as NothingToRetract; once the tile is held its line ends in `held`.
--- proofs/ActExamples.antt computes it.
-use Rattle.std.specs.Prelude.{ℕ, Bool, true, false, Option, Some, None, List, [], ◌∷◌}
+-- Example: at the start of the small problem's new book a retract is refused as NothingToRetract; once the tile is held its line ends in
+-- `held`; and where no worker is at an end, `close` is `refused book 8 NotAtEnd`. proofs/ActExamples.antt computes it.
+use Rattle.std.specs.Prelude.{ℕ, Bool, true, false, if◌then◌else◌, Option, Some, None, List, [], ◌∷◌, unwrap_or}
 use Rattle.std.specs.List.{slice_get}
+use Rattle.cover_problem.specs.Problem.{ProblemValue}
+use Rattle.x_branches.specs.Cut.{CutPath}
 use Rattle.x_branches.specs.declared.branch.Branch.{Branch}
-use Rattle.x_branches.specs.Runner.{RunnerValue, unposted_steps}
+use Rattle.x_branches.specs.Runner.{RunnerValue, IsOf, unposted_steps}
+use Rattle.x_texts.specs.declared.breakpoint.Break.{Break}
+use Rattle.x_snapshot.specs.Snapshot.{SnapshotValue, IsCutIfAny, snapshot_with}
+use Rattle.x_snapshot.specs.Writer.{snapshot_text}
+use Rattle.lab_history.specs.declared.fault.BookFault.{BookFault}
+use Rattle.lab_history.specs.declared.fault.BookFault.TheVariants.{NotAtEnd}
+use Rattle.lab_history.specs.Faults as book
 use Rattle.lab_history.specs.declared.entry.Entry.{Entry}
 use Rattle.lab_history.specs.declared.entry.Reply.{Reply}
 use Rattle.lab_history.specs.declared.entry.Reply.TheVariants as reply
@@ -18,14 +27,20 @@ use Rattle.lab_world.specs.Worker.{WorkerValue}
 use Rattle.lab_world.specs.World.{Turn, turn_of}
 use Rattle.debug_language.specs.declared.fault.DebugFault.TheVariants.{NoBranch, AlreadyOpen}
 use Rattle.debug_language.specs.declared.words.Counted.TheVariants as counts
+use Rattle.debug_language.specs.declared.words.Plain.TheVariants.{Closed}
 use Rattle.debug_language.specs.declared.words.Standing.TheVariants as standing
-use Rattle.debug_language.specs.Replies.{standing_words}
-use Rattle.debug_acts.specs.Lines.{state_line, counted, debug_refusal, runner_refusal, book_refusal}
+use Rattle.debug_language.specs.declared.words.Layer.TheVariants as layer
+use Rattle.debug_language.specs.Replies.{standing_words, plain, state_line, counted, refused_words, debug_refusal, runner_refusal, saved_text}
+use Rattle.debug_acts.specs.Acts.{is_ended}
 use Rattle.debug_acts.specs.Tiles.{tile_line}
 use Rattle.debug_acts.specs.declared.answer.Told.{Told}
 use Rattle.debug_acts.specs.declared.answer.Told.TheVariants as told
 
 -- ---- refusals
+
+-- the line of what a book refuses; out of memory has no number, and is never told
+abbrev pub book_refusal : BookFault → List (List ℕ)
+book_refusal f = refused_words layer.Book (unwrap_or (book.number_of f) 0) (book.name_of f)
 
 -- the line of what the book answered, if it refused
 abbrev pub reply_refusals : Reply → List (List (List ℕ))
@@ -65,22 +80,10 @@ retracted_lines r = counted counts.Retracted (unposted_steps r) ∷ state_line r
 abbrev pub rest_line : RunnerValue → Branch → List (List ℕ)
 rest_line r b = standing_words (cut_path r.branch.hi) (cut_path b.hi) standing.Waiting
 
--- lines of a worker, if there is one
-abbrev pub worker_lines : Option WorkerValue → (WorkerValue → List (List (List ℕ))) → List (List (List ℕ))
+-- lines of a worker's runner, if there is one
+abbrev pub worker_lines : Option WorkerValue → (RunnerValue → List (List (List ℕ))) → List (List (List ℕ))
 worker_lines None f = []
-worker_lines (Some w) f = f w
-
--- the line of where it stands
-abbrev pub worker_place : Option WorkerValue → List (List (List ℕ))
-worker_place x = worker_lines x (λ w. state_line w.runner.position ∷ [])
-
--- the lines of what it took back
-abbrev pub worker_retracted : Option WorkerValue → List (List (List ℕ))
-worker_retracted x = worker_lines x (λ w. retracted_lines w.runner)
-
--- the line of the part of this branch that goes on where its branch ends
-abbrev pub worker_parted : Option WorkerValue → Branch → List (List (List ℕ))
-worker_parted x before = worker_lines x (λ w. rest_line w.runner before ∷ [])
+worker_lines (Some w) f = f w.runner
 
 -- the line of a tile, if there is one
 abbrev pub tile_lines : Option TileValue → List (List (List ℕ))
@@ -89,9 +92,9 @@ tile_lines (Some t) = tile_line t ∷ []
 
 -- lines of a book and a worker: where it stands, what it took back, the part that goes on, or the tile at a place
 abbrev pub done_lines : Told → BookValue → Option WorkerValue → List (List (List ℕ))
-done_lines told.Place b x = worker_place x
-done_lines told.Retracted b x = worker_retracted x
-done_lines (told.Parted before) b x = worker_parted x before
+done_lines told.Place b x = worker_lines x (λ r. state_line r.position ∷ [])
+done_lines told.Retracted b x = worker_lines x retracted_lines
+done_lines (told.Parted before) b x = worker_lines x (λ r. rest_line r before ∷ [])
 done_lines (told.Tile i) b x = tile_lines (slice_get b.tiles i)
 
 -- what a turn is answered: its refusal, or lines of what it left
@@ -101,3 +104,21 @@ turn_lines what t = lines_or (refusals t.book t.reply) (done_lines what t.book t
 -- what worker 0's act is answered on a book and a seat
 abbrev pub told_lines : BookValue → Option WorkerValue → Act → Told → List (List (List ℕ))
 told_lines b x a what = turn_lines what (turn_of b x 0 a)
+
+-- ---- what is told where a branch is given up
+
+-- where the search stands, as a snapshot
+abbrev pub snapshot_of_worker : WorkerValue → List Break → SnapshotValue
+snapshot_of_worker w breaks = snapshot_with w.runner.problem (cut_path w.runner.branch.lo) (cut_path w.runner.branch.hi) w.runner.position breaks
+
+-- where a cut is a problem's, these choices are a cut of its search, if there are any
+abbrev pub AreChoicesOf : Option CutPath → Option (List ℕ) → Type 0
+AreChoicesOf cut choices = (p : ProblemValue) → IsOf p cut → IsCutIfAny p choices
+
+-- the text of that, after the number of its lines
+abbrev pub save_text : WorkerValue → List Break → List ℕ
+save_text w breaks = saved_text (snapshot_text (snapshot_of_worker w breaks))
+
+-- the line of `close`: at the branch's end it is closed, and before it the book refuses
+abbrev pub close_line : Option WorkerValue → List (List ℕ)
+close_line x = if is_ended x then plain Closed else book_refusal NotAtEnd

@@ -1,8 +1,6 @@
-pub mod Lines
 pub mod Breakpoints
 pub mod Overview
 pub mod Tiles
 pub mod Walk
 pub mod Acts
 pub mod Answer
-pub mod Ends

@@ -12,8 +12,7 @@ use Rattle.x_branches.specs.Refusals.{untried_in}
 use Rattle.lab_book.specs.Book.{cut_path}
 use Rattle.debug_language.specs.declared.words.Plain.TheVariants.{NothingUntried}
 use Rattle.debug_language.specs.declared.words.Listed.TheVariants.{Chosen, Active, Second}
-use Rattle.debug_language.specs.Replies.{branch_words, covered_words, list_words, untried_words}
-use Rattle.debug_acts.specs.Lines.{state_line, plain}
+use Rattle.debug_language.specs.Replies.{branch_words, covered_words, list_words, untried_words, state_line, plain}
 
 -- the line of the chosen item, where there is one
 abbrev pub chosen_lines : List (List ℕ) → Option (ℕ × List ℕ) → List (List (List ℕ))

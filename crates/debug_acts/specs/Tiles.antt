@@ -8,16 +8,14 @@ use Rattle.std.specs.List.{position}
 use Rattle.std.specs.Str.{bytes_eq}
 use Rattle.lab_book.specs.declared.status.Status.{Status}
 use Rattle.lab_book.specs.declared.status.Status.TheVariants.{Waiting, Held, Leased, Closed}
-use Rattle.lab_history.specs.declared.entry.Call.{Call}
 use Rattle.lab_book.specs.Tile.{TileValue, is_closed}
 use Rattle.lab_book.specs.Tiling.{tile_at}
-use Rattle.lab_book.specs.Book.{BookValue, book_step, cut_path}
+use Rattle.lab_book.specs.Book.{BookValue, cut_path}
 use Rattle.debug_language.specs.declared.words.Counted.TheVariants as counts
 use Rattle.debug_language.specs.declared.words.Standing.{Standing}
 use Rattle.debug_language.specs.declared.words.Standing.TheVariants as standing
-use Rattle.debug_language.specs.Replies.{standing_words}
+use Rattle.debug_language.specs.Replies.{standing_words, counted}
 use Rattle.x_texts.specs.Words.{visit_words}
-use Rattle.debug_acts.specs.Lines.{counted}
 
 -- ---- how they are shown
 
@@ -67,11 +65,3 @@ place_at lo ts = position (is_begun_at lo) ts
 -- a tile that isn't closed stands at this place
 abbrev pub IsOpenAt : BookValue → ℕ → Type 0
 IsOpenAt b i = is_closed (tile_at b.tiles i).status ≡ false
-
--- a cut names the tile at this place, which isn't closed then
-abbrev pub NamesOpen : BookValue → Option (List ℕ) → ℕ → Type 0
-NamesOpen b lo i = place_at lo b.tiles ≡ Some i → IsOpenAt b i
-
--- a call of worker 0 leaves the tile at a place open, where it was
-abbrev pub KeepsOpen : BookValue → Call → ℕ → Type 0
-KeepsOpen b c i = IsOpenAt b i → IsOpenAt (book_step b 0 c) i

@@ -5,9 +5,7 @@
 use Rattle.std.specs.Prelude.{ℕ, ◌≤◌, ◌<◌, ◌≡◌, ◌-◌, ◌==◌, nat_lt, if◌then◌else◌, List, [], ◌∷◌, ◌++◌, map, Option, Some, None}
 use Rattle.cover_problem.specs.Problem.{ProblemValue}
 use Rattle.x_steps.specs.StateValue.{StateValue}
-use Rattle.x_steps.specs.declared.event.Event.{Event}
 use Rattle.x_steps.specs.declared.machine.walk.Walk.{Walk}
-use Rattle.x_steps.specs.Walk.{visit_told}
 use Rattle.x_steps.specs.Run.{after, steps_between, visits_between}
 use Rattle.x_branches.specs.Branch.{end_of}
 use Rattle.x_branches.specs.Runner.{RunnerValue, unposted_steps}
@@ -17,9 +15,9 @@ use Rattle.lab_world.specs.Worker.{WorkerValue, moved_forward_by, event_after, M
 use Rattle.debug_language.specs.declared.fault.DebugFault.TheVariants.{AtEnd, AtStart}
 use Rattle.debug_language.specs.declared.words.Plain.TheVariants.{End}
 use Rattle.debug_language.specs.declared.words.Counted.TheVariants.{Moved}
-use Rattle.x_texts.specs.Words.{visit_words}
+use Rattle.x_texts.specs.Words.{visit_words, break_words}
 use Rattle.debug_acts.specs.Breakpoints.{first_met, steps_to_break}
-use Rattle.debug_acts.specs.Lines.{plain, counted, state_line, met, debug_refusal}
+use Rattle.debug_language.specs.Replies.{plain, counted, state_line, debug_refusal}
 
 -- how many steps lead from a runner on to the end of its branch
 abbrev pub steps_ahead : RunnerValue → ℕ
@@ -37,10 +35,6 @@ pub record WalksFar (x y : WorkerValue) (most : ℕ) (w : Walk) : Type 0 where
 -- a number of steps is at least one and at most this one
 abbrev pub AreSomeSteps : ℕ → ℕ → Type 0
 AreSomeSteps n most = (0 < n) × (n ≤ most)
-
--- the line of the visit that a runner's walk came to, if it did
-abbrev pub told_visit : Event → RunnerValue → List (List (List ℕ))
-told_visit event r = map visit_words (visit_told event r.position.path)
 
 -- the lines of the visits between two states
 abbrev pub visit_lines : ProblemValue → StateValue → StateValue → List (List (List ℕ))
@@ -99,7 +93,7 @@ run_met breaks r = first_met r.problem breaks (state_on r (run_count breaks r))
 
 -- the breakpoint that was met, or else the end
 abbrev pub stop_line : List (List ℕ) → Option Break → List (List ℕ)
-stop_line names (Some b) = met names b
+stop_line names (Some b) = break_words names b
 stop_line names None = plain End
 
 -- what `run` answers with these breakpoints: the walk, and why it stopped

@@ -7,7 +7,8 @@ ghost use Rattle.lab_book.specs.Tiling.{tile_at};
 ghost use Rattle.debug_acts.specs.Tiles.{tile_line};
 ghost use Rattle.lab_world.specs.World.{IsSeat, IsInHistory};
 ghost use Rattle.debug_acts.specs.Acts.{Plays};
-ghost use Rattle.debug_acts.specs.Answer.{reply_refusals, refusals, is_done, worker_place, worker_retracted, worker_parted, tile_lines, done_lines, told_lines};
+ghost use Rattle.debug_language.specs.Replies.{state_line};
+ghost use Rattle.debug_acts.specs.Answer.{reply_refusals, refusals, is_done, retracted_lines, rest_line, worker_lines, tile_lines, done_lines, told_lines};
 
 use crate::overview::choices;
 use crate::tiles::{write_book_fault, write_tile};
@@ -68,7 +69,8 @@ fn write_refusal(text: &mut Vec<u8>, book: &Book<'_>, reply: WorldReply) -> Resu
 
 /// Writes where a worker stands, if there is one.
 fn write_stand<T: Table>(text: &mut Vec<u8>, seat: &Option<Worker<'_, T>>) -> Result<(), AllocError>
-    ensures { AddsLines result text.old text.new (worker_place seat.now) }
+    ensures { AddsLines result text.old text.new
+        (worker_lines seat.now (λ r. state_line r.position ∷ [])) }
 {
     let Some(worker) = seat else {
         return Ok(());
@@ -81,7 +83,7 @@ fn write_retracted<T: Table>(
     text: &mut Vec<u8>,
     seat: &Option<Worker<'_, T>>,
 ) -> Result<(), AllocError>
-    ensures { AddsLines result text.old text.new (worker_retracted seat.now) }
+    ensures { AddsLines result text.old text.new (worker_lines seat.now retracted_lines) }
 {
     let Some(worker) = seat else {
         return Ok(());
@@ -97,7 +99,8 @@ fn write_parted<T: Table>(
     seat: &Option<Worker<'_, T>>,
     before: &Branch<'_>,
 ) -> Result<(), AllocError>
-    ensures { AddsLines result text.old text.new (worker_parted seat.now before.now) }
+    ensures { AddsLines result text.old text.new
+        (worker_lines seat.now (λ r. rest_line r before.now ∷ [])) }
 {
     let Some(worker) = seat else {
         return Ok(());

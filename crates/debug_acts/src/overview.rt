@@ -1,7 +1,7 @@
 //! What is shown of where the search stands, and of what is untried.
 ghost use Rattle.std.specs.Prelude.{◌≡◌, ◌++◌, option_copied};
 ghost use Rattle.lab_book.specs.Book.{cut_path};
-ghost use Rattle.debug_acts.specs.Lines.{state_line};
+ghost use Rattle.debug_language.specs.Replies.{state_line};
 ghost use Rattle.debug_acts.specs.Overview.{runner_branch, runner_covered, runner_chosen, runner_active, runner_second};
 ghost use Rattle.debug_acts.specs.Overview.{show_lines, level_lines, all_untried, untried_lines};
 ghost use Rattle.text_lines.specs.Writes.{AddsLine, AddsLines};

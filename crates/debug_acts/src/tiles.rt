@@ -1,6 +1,7 @@
 //! Which tile a cut names, and how tiles are shown.
 ghost use Rattle.std.specs.Prelude.{◌≡◌, ◌<◌, ℕ, length, OnOk, IfSome};
-ghost use Rattle.debug_acts.specs.Lines.{plain, book_refusal};
+ghost use Rattle.debug_language.specs.Replies.{plain};
+ghost use Rattle.debug_acts.specs.Answer.{book_refusal};
 ghost use Rattle.debug_acts.specs.Tiles.{given_cut, is_begun_at, place_at, BeginsAt, standing_of, tile_line, open_lines, visits_lines};
 ghost use Rattle.debug_acts.specs.Overview.{or_none};
 ghost use Rattle.lab_book.specs.Posted.{posted_visits};

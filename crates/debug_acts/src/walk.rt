@@ -1,9 +1,11 @@
 //! Steps onward and back.
-ghost use Rattle.std.specs.Prelude.{◌≡◌, ◌<◌, Some, IfOk, OnErr};
+ghost use Rattle.std.specs.Prelude.{◌≡◌, ◌<◌, ◌==◌, Some, map, IfOk, OnErr};
+ghost use Rattle.x_steps.specs.Walk.{visit_told};
+ghost use Rattle.x_texts.specs.Words.{visit_words};
 ghost use Rattle.lab_book.specs.Book.{BookValue};
 ghost use Rattle.lab_world.specs.Worker.{HoldsTile};
 ghost use Rattle.lab_world.specs.World.{IsSeat};
-ghost use Rattle.debug_acts.specs.Walk.{WalksFar, AreSomeSteps, told_visit, visits_on, moved_lines, steps_ahead, step_count};
+ghost use Rattle.debug_acts.specs.Walk.{WalksFar, AreSomeSteps, visits_on, moved_lines, steps_ahead, step_count};
 ghost use Rattle.debug_acts.specs.Acts.{Walks, WalksPart};
 ghost use Rattle.text_lines.specs.Writes.{AddsLines, WritesLines};
 
@@ -22,6 +24,19 @@ pub use onward::step;
 use std::alloc::AllocError;
 use x_steps::{Event, Walk};
 use x_texts::write_visit;
+
+/// Whether a worker that holds its tile is at the tile's end.
+#[inline(always)]
+pub(crate) fn is_at_end<T: Table>(book: &Book<'_>, worker: &Worker<'_, T>) -> bool
+    requires { HoldsTile book.now worker.now }
+    ensures { result ≡ (steps_ahead worker.now.runner == 0) }
+{
+    // What is true of a book and of a runner is told by these.
+    book.is_sound();
+    let runner = worker.runner();
+    runner.is_sound();
+    runner.is_at_end()
+}
 
 /// Takes a step, or up to so many, no further than to the next visit, of a worker that has room for one and isn't at its branch's end.
 #[inline(always)]
@@ -50,7 +65,8 @@ fn note_visited<T: Table>(
     event: Event,
     worker: &Worker<'_, T>,
 ) -> Result<(), AllocError>
-    ensures { AddsLines result text.old text.new (told_visit event worker.now.runner) }
+    ensures { AddsLines result text.old text.new
+        (map visit_words (visit_told event worker.now.runner.position.path)) }
 {
     match event {
         Event::Visited => write_visit(text, &worker.runner().state().path),

@@ -1,31 +1,18 @@
 //! A branch is closed, or the book refuses it.
-ghost use Rattle.std.specs.Prelude.{◌≡◌, ◌==◌};
+ghost use Rattle.std.specs.Prelude.{◌≡◌};
 ghost use Rattle.text_lines.specs.Writes.{AddsLine};
-ghost use Rattle.lab_world.specs.Worker.{HoldsTile};
 ghost use Rattle.lab_world.specs.World.{IsSeat};
-ghost use Rattle.debug_acts.specs.Walk.{steps_ahead};
 ghost use Rattle.debug_acts.specs.Acts.{is_ended, close_acts, PlaysShort};
-ghost use Rattle.debug_acts.specs.Ends.{close_line};
+ghost use Rattle.debug_acts.specs.Answer.{close_line};
 
 use crate::ends::end_branch;
 use crate::tiles::write_book_fault;
+use crate::walk::is_at_end;
 use cover_problem::Table;
 use debug_language::{Plain, write_plain};
 use lab_book::{Book, BookFault};
 use lab_world::{Act, Worker, take_turn};
 use std::alloc::{AllocError, Global};
-
-/// Whether a worker that holds its tile is at the tile's end.
-fn is_at_end<T: Table>(book: &Book<'_>, worker: &Worker<'_, T>) -> bool
-    requires { HoldsTile book.now worker.now }
-    ensures { (steps_ahead worker.now.runner == 0) ≡ result }
-{
-    // What is true of a book and of a runner is told by these.
-    book.is_sound();
-    let runner = worker.runner();
-    runner.is_sound();
-    runner.is_at_end()
-}
 
 /// Whether the worker of a seat is at its branch's end.
 fn is_ended<T: Table>(book: &Book<'_>, seat: &Option<Worker<'_, T>>) -> bool

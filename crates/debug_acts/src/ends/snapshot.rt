@@ -4,7 +4,7 @@ ghost use Rattle.shared_words.specs.Answers.{Returns, Adds};
 ghost use Rattle.x_texts.specs.Breaks.{are_breaks};
 ghost use Rattle.x_snapshot.specs.Snapshot.{choices_of};
 ghost use Rattle.lab_book.specs.Book.{cut_path};
-ghost use Rattle.debug_acts.specs.Ends.{snapshot_of_worker, save_text, AreChoicesOf};
+ghost use Rattle.debug_acts.specs.Answer.{snapshot_of_worker, save_text, AreChoicesOf};
 
 use cover_problem::{Problem, Table};
 use debug_language::write_saved;

@@ -6,10 +6,10 @@ ghost use Rattle.x_texts.specs.Breaks.{is_break};
 ghost use Rattle.lab_world.specs.Worker.{HoldsTile};
 ghost use Rattle.lab_world.specs.World.{IsSeat};
 ghost use Rattle.debug_acts.specs.Walk.{stride, run_count, run_met, run_lines, stop_line, steps_ahead, visits_on};
-ghost use Rattle.debug_acts.specs.Acts.{PlaysRun};
+ghost use Rattle.debug_acts.specs.Acts.{PlaysWalk};
 
 use crate::met::first_met;
-use crate::walk::{walk_on, write_moved};
+use crate::walk::{is_at_end, walk_on, write_moved};
 use cover_problem::Table;
 use debug_language::{DebugFault, Plain, write_debug_fault, write_met, write_plain};
 use indexmap::IndexSet;
@@ -37,7 +37,9 @@ fn walk_to_stop<'p, T: Table>(
     requires ahead { 0 < steps_ahead worker.old.runner }
     ensures count { IfOk result (λ r. r.0 ≡ run_count breaks.now.keys worker.old.runner) }
     ensures met { IfOk result (λ r. r.1 ≡ run_met breaks.now.keys worker.old.runner) }
-    ensures acts { PlaysRun result book.old worker.old breaks.now.keys book.new worker.new }
+    ensures acts { PlaysWalk result book.old worker.old
+        (run_count breaks.now.keys worker.old.runner)
+        book.new worker.new }
     ensures text { AddsLines result text.old text.new (visits_on worker.old.runner (run_count breaks.now.keys worker.old.runner)) }
     ensures seat { IsSeat book.new worker.old.grant.worker (Some worker.new) }
 {
@@ -45,7 +47,7 @@ fn walk_to_stop<'p, T: Table>(
     worker.runner().is_sound();
     let most = stride(breaks);
     let mut moved = 0;
-    while !worker.runner().is_at_end() {
+    while !is_at_end(book, worker) {
         let steps = walk_on(book, worker, most, text)?;
         // Each full stretch is an entry of the history, and there are fewer than 2^64 of them: no sum can be too large.
         let _entries = book.history().len();
@@ -81,13 +83,15 @@ pub fn run<'p, T: Table>(
 ) -> Result<(), AllocError>
     requires holds { HoldsTile book.old worker.old }
     requires breaks { list_all (is_break book.old.problem) breaks.now.keys ≡ true }
-    ensures acts { PlaysRun result book.old worker.old breaks.now.keys book.new worker.new }
+    ensures acts { PlaysWalk result book.old worker.old
+        (run_count breaks.now.keys worker.old.runner)
+        book.new worker.new }
     ensures text { AddsLines result text.old text.new (run_lines breaks.now.keys worker.old.runner) }
     ensures seat { IsSeat book.new worker.old.grant.worker (Some worker.new) }
 {
     book.is_sound();
     worker.runner().is_sound();
-    if worker.runner().is_at_end() {
+    if is_at_end(book, worker) {
         return write_debug_fault(text, DebugFault::AtEnd);
     }
     let (moved, met) = walk_to_stop(book, worker, breaks, text)?;

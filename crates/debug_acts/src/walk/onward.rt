@@ -4,10 +4,10 @@ ghost use Rattle.shared_words.specs.Answers.{Returns};
 ghost use Rattle.lab_world.specs.Worker.{HoldsTile};
 ghost use Rattle.lab_world.specs.World.{IsSeat};
 ghost use Rattle.debug_acts.specs.Walk.{step_count, visits_on, step_lines};
-ghost use Rattle.debug_acts.specs.Acts.{PlaysStep};
+ghost use Rattle.debug_acts.specs.Acts.{PlaysWalk};
 ghost use Rattle.text_lines.specs.Writes.{AddsLines};
 
-use crate::walk::{walk_on, write_moved};
+use crate::walk::{is_at_end, walk_on, write_moved};
 use cover_problem::Table;
 use debug_language::{DebugFault, Plain, write_debug_fault, write_plain};
 use lab_book::Book;
@@ -23,7 +23,8 @@ fn walk<'p, T: Table>(
 ) -> Result<u32, AllocError>
     requires holds { HoldsTile book.old worker.old }
     ensures count { Returns result (step_count worker.old.runner most) }
-    ensures acts { PlaysStep result book.old worker.old most book.new worker.new }
+    ensures acts { PlaysWalk result book.old worker.old (step_count worker.old.runner most)
+        book.new worker.new }
     ensures text { AddsLines result text.old text.new (visits_on worker.old.runner (step_count worker.old.runner most)) }
     ensures seat { IsSeat book.new worker.old.grant.worker (Some worker.new) }
 {
@@ -32,7 +33,7 @@ fn walk<'p, T: Table>(
     worker.runner().is_sound();
     let mut taken = 0;
     while taken < most {
-        if worker.runner().is_at_end() {
+        if is_at_end(book, worker) {
             return Ok(taken);
         }
         let steps = walk_on(book, worker, most - taken, text)?;
@@ -50,19 +51,20 @@ pub fn step<'p, T: Table>(
 ) -> Result<(), AllocError>
     requires holds { HoldsTile book.old worker.old }
     requires some { 0 < most }
-    ensures acts { PlaysStep result book.old worker.old most book.new worker.new }
+    ensures acts { PlaysWalk result book.old worker.old (step_count worker.old.runner most)
+        book.new worker.new }
     ensures text { AddsLines result text.old text.new (step_lines worker.old.runner most) }
     ensures seat { IsSeat book.new worker.old.grant.worker (Some worker.new) }
 {
     book.is_sound();
     worker.runner().is_sound();
-    if worker.runner().is_at_end() {
+    if is_at_end(book, worker) {
         return write_debug_fault(text, DebugFault::AtEnd);
     }
     let moved = walk(book, worker, most, text)?;
     write_moved(text, moved as u128, worker)?;
     // Told at once, so that no step has to be refused before it is known.
-    if worker.runner().is_at_end() {
+    if is_at_end(book, worker) {
         return write_plain(text, Plain::End);
     }
     Ok(())

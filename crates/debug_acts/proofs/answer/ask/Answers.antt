@@ -1,5 +1,5 @@
 use Rattle.std.proofs.Common.{sym, ◌∙◌}
-use Rattle.debug_acts.proofs.PartLemmas.{done_told, refused_told}
+use Rattle.debug_acts.proofs.LineLemmas.{done_told, refused_told}
 use Rattle.debug_acts.proofs.answer.ask.Goals as goal
 
 pub returns-then-done-clause-text : goal.returns-then-done-clause-text

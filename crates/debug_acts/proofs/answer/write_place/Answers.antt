@@ -1,8 +1,7 @@
 use Rattle.std.proofs.Common.{sym, ◌∙◌}
 use Rattle.debug_acts.specs.Tiles.{tile_line}
-use Rattle.debug_acts.proofs.LineLemmas.{answered}
+use Rattle.debug_acts.proofs.LineLemmas.{answered, is_within, tile_there, no_tile_text}
 use Rattle.lab_book.specs.Tiling.{tile_at}
-use Rattle.debug_acts.proofs.PartLemmas.{is_within, tile_there, no_tile_text}
 use Rattle.debug_acts.proofs.answer.write_place.Goals as goal
 
 pub write_tile_at-requires : goal.write_tile_at-requires

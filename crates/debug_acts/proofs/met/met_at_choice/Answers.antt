@@ -3,7 +3,7 @@ use Rattle.std.specs.List.{list_any}
 use Rattle.std.specs.Option.{option_map}
 use Rattle.x_steps.specs.StateView.{row_value}
 use Rattle.debug_acts.specs.Breakpoints.{is_item_break}
-use Rattle.debug_acts.proofs.MetLemmas.{first_or, first_row, met_at_choice, none_at_choice, some_chosen}
+use Rattle.debug_acts.proofs.MetLemmas.{met_at_choice, none_at_choice, some_chosen}
 use Rattle.debug_acts.proofs.met.met_at_choice.Goals as goal
 
 pub returns-then-not-has_item : goal.returns-then-not-has_item
@@ -18,5 +18,4 @@ unreachable-requires g c =
 pub returns : goal.returns
 returns g c =
     c.if_set.ensures ∙ met_at_choice c.args.runner.now.problem c.args.runner.now.position c.args.breaks.now.keys
-    c.requires c.in-Some.item _ (ap (λ o. first_or c.args.runner.now.problem c.args.runner.now.position c.in-Some.item (option_map row_value o)) c.in-Some.is
-    ∙ first_row c.args.runner.now.problem c.args.runner.now.position c.in-Some.item c.in-Some.field-0-1.items) c.in_ok-item.ensures
+    c.requires c.in-Some.item c.in-Some.field-0-1.items (ap (option_map row_value) (sym c.in-Some.is) ∙ c.in_ok-item.ensures)

@@ -4,7 +4,7 @@ use Rattle.lab_world.specs.Worker.{WorkerValue}
 use Rattle.debug_acts.proofs.LineLemmas.{on_err}
 use Rattle.debug_acts.specs.Walk.{steps_ahead, step_count}
 use Rattle.debug_acts.specs.Acts.{room_acts, WalksPart}
-use Rattle.debug_acts.proofs.CountLemmas.{least_both}
+use Rattle.debug_acts.proofs.ForwardLemmas.{least_both}
 use Rattle.debug_acts.proofs.WorkLemmas.{work}
 use Rattle.debug_acts.proofs.LeadLemmas.{all_part}
 use Rattle.debug_acts.proofs.FarLemmas.{room_part, far_made, far_seat, far_within, far_part, far_text}

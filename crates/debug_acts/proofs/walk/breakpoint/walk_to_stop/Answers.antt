@@ -1,12 +1,12 @@
 use Rattle.std.proofs.Common.{◌≡◌, ◌+◌, ◌<◌, ◌^◌, Some, List, length, subst, sym, refl, arith, ap, ◌∙◌}
-use Rattle.std.proofs.lemmas.Bool.{false≢true}
 use Rattle.x_branches.specs.Runner.{RunnerValue, IsRunner, unposted_steps}
 use Rattle.lab_history.specs.declared.entry.Entry.{Entry}
 use Rattle.debug_acts.specs.Breakpoints.{first_met}
-use Rattle.debug_acts.specs.Walk.{AreSomeSteps, step_count, stride}
+use Rattle.debug_acts.specs.Walk.{AreSomeSteps, steps_ahead, step_count, stride}
+use Rattle.debug_acts.proofs.ForwardLemmas.{not_zero}
 use Rattle.debug_acts.proofs.WorkLemmas.{work}
 use Rattle.debug_acts.proofs.LeadLemmas.{plays_err}
-use Rattle.debug_acts.proofs.WalkedLemmas.{Walked, walked_join, fewer_left, seat_on, read_end, ahead_of, few, counted_leads, counted_text}
+use Rattle.debug_acts.proofs.WalkedLemmas.{Walked, walked_join, fewer_left, seat_on, few, counted_leads, counted_text}
 use Rattle.debug_acts.proofs.RunLemmas.{some_stride, none_run, run_to_end, none_met, run_part, run_to_break, met_there, runs_on, met_part}
 use Rattle.debug_acts.proofs.walk.breakpoint.walk_to_stop.Goals.{In_ok-steps, In_ok-met}
 use Rattle.debug_acts.proofs.walk.breakpoint.walk_to_stop.Goals as goal
@@ -38,12 +38,12 @@ walk_on-requires-clause-some g c = rw c.stride-most.ensures (some_stride c.args.
 
 pub walk_on-requires-clause-ahead : goal.walk_on-requires-clause-ahead
 walk_on-requires-clause-ahead g c =
-    ahead_of _ _ _ _ _ c.loop-book.invariant.walked (λ e. false≢true (c.loop-book-test.ensures.1 (read_end _ _ (sym c.runner-in-loop-book.ensures) e)))
+    not_zero (steps_ahead c.loop-book.worker.runner) c.loop-book-test.ensures
 
 pub returns-in_err-steps-clause-acts : goal.returns-in_err-steps-clause-acts
 returns-in_err-steps-clause-acts g c =
     plays_err c.args.book.now c.walk_on.new.book (Some c.args.worker.now) (Some c.walk_on.new.worker) _ c.from_residual.result _ _ c.from_residual.ensures.1
-    (run_part _ _ _ _ _ _ c.loop-book.invariant (λ e. false≢true (c.loop-book-test.ensures.1 (read_end _ _ (sym c.runner-in-loop-book.ensures) e)))
+    (run_part _ _ _ _ _ _ c.loop-book.invariant c.loop-book-test.ensures
     (work c.walk_on.new.book c.walk_on.new.worker) (rw (← c.stride-most.ensures) c.in_err-steps.ensures.left))
 
 pub returns-in_err-steps-clause-seat : goal.returns-in_err-steps-clause-seat
@@ -63,7 +63,7 @@ returns-in_err-met-clause-acts g c =
     plays_err c.args.book.now c.walk_on.new.book (Some c.args.worker.now) (Some c.walk_on.new.worker) _ c.from_residual-in_err-met.result _ _
     c.from_residual-in_err-met.ensures.1
     (met_part _ _ _ _ _ _ c.loop-book.invariant _ (work c.walk_on.new.book c.walk_on.new.worker)
-    (some g (goal.at.returns-in_err-met-clause-acts g c).In_ok-steps) (λ e. false≢true (c.loop-book-test.ensures.1 (read_end _ _ (sym c.runner-in-loop-book.ensures) e)))
+    (some g (goal.at.returns-in_err-met-clause-acts g c).In_ok-steps) c.loop-book-test.ensures
     c.in_ok-steps.ensures.made)
 
 pub returns-in_err-met-clause-seat : goal.returns-in_err-met-clause-seat
@@ -109,24 +109,23 @@ loop-book-preserved g c =
 
 pub returns-clause-count : goal.returns-clause-count
 returns-clause-count g c =
-    run_to_end _ _ _ _ _ _ c.loop-book.invariant c.requires.ahead (read_end _ _ c.runner-in-loop-book.ensures (c.loop-book-test.ensures.0 refl))
+    run_to_end _ _ _ _ _ _ c.loop-book.invariant c.requires.ahead c.loop-book-test.ensures
 
 pub returns-clause-met : goal.returns-clause-met
 returns-clause-met g c =
-    none_met _ _ _ _ _ _ c.loop-book.invariant _ c.requires.ahead (read_end _ _ c.runner-in-loop-book.ensures (c.loop-book-test.ensures.0 refl))
-    (run_to_end _ _ _ _ _ _ c.loop-book.invariant c.requires.ahead (read_end _ _ c.runner-in-loop-book.ensures (c.loop-book-test.ensures.0 refl)))
+    none_met _ _ _ _ _ _ c.loop-book.invariant c.requires.ahead c.loop-book-test.ensures
 
 pub returns-clause-acts : goal.returns-clause-acts
 returns-clause-acts g c = (
   counted_leads _ _ _ _ _ c.loop-book.invariant.walked _
-      (run_to_end _ _ _ _ _ _ c.loop-book.invariant c.requires.ahead (read_end _ _ c.runner-in-loop-book.ensures (c.loop-book-test.ensures.0 refl))),
+      (run_to_end _ _ _ _ _ _ c.loop-book.invariant c.requires.ahead c.loop-book-test.ensures),
   tt,
 )
 
 pub returns-clause-text : goal.returns-clause-text
 returns-clause-text g c =
     counted_text _ _ _ _ _ c.loop-book.invariant.walked _
-    (run_to_end _ _ _ _ _ _ c.loop-book.invariant c.requires.ahead (read_end _ _ c.runner-in-loop-book.ensures (c.loop-book-test.ensures.0 refl)))
+    (run_to_end _ _ _ _ _ _ c.loop-book.invariant c.requires.ahead c.loop-book-test.ensures)
 
 pub returns-clause-seat : goal.returns-clause-seat
 returns-clause-seat g c = c.loop-book.invariant.walked.seat

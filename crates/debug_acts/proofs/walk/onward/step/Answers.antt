@@ -1,32 +1,27 @@
-use Rattle.std.proofs.Common.{Some, ◌++◌, subst, sym, refl, ap, ◌∙◌}
-use Rattle.std.proofs.lemmas.Bool.{false≢true}
+use Rattle.std.proofs.Common.{◌++◌, Some, true, false, append-nil, refl, subst, sym, ap, ◌∙◌}
 use Rattle.text_lines.specs.Writing.{text_of}
 use Rattle.x_branches.specs.Runner.{IsRunner}
 use Rattle.debug_language.specs.declared.fault.DebugFault.TheVariants.{AtEnd}
 use Rattle.debug_language.specs.declared.words.Plain.TheVariants.{End}
+use Rattle.debug_language.specs.Replies.{plain, debug_refusal}
 use Rattle.x_snapshot.proofs.PositionLemmas.{on_ok as when_ok}
-use Rattle.debug_acts.specs.Lines.{plain, debug_refusal}
+use Rattle.debug_acts.specs.Walk.{steps_ahead, step_count, walk_lines}
 use Rattle.debug_acts.proofs.LineLemmas.{answered}
-use Rattle.debug_acts.specs.Walk.{step_count}
+use Rattle.debug_acts.proofs.ForwardLemmas.{least_within}
 use Rattle.debug_acts.proofs.WorkLemmas.{work, IsWork}
 use Rattle.debug_acts.proofs.LeadLemmas.{came_to, plays_all, plays_err}
-use Rattle.debug_acts.proofs.WalkedLemmas.{read_end}
-use Rattle.debug_acts.proofs.AnswerLemmas.{stands_at, walk_text, line_more, step_within, step_refused, step_refused_lines, step_to_end, step_not_to_end}
+use Rattle.debug_acts.proofs.AnswerLemmas.{stands_at, walk_text, line_more, none_plays, step_within, step_lines_are}
 use Rattle.debug_acts.proofs.walk.onward.step.Goals as goal
 
 pub returns-then-is_at_end-clause-acts : goal.returns-then-is_at_end-clause-acts
 returns-then-is_at_end-clause-acts g c =
-    step_refused (work c.args.book.now c.args.worker.now)
-    (record { tiling = c.is_sound.ensures.tiling; holds = c.requires.holds; runner = subst IsRunner c.runner.ensures c.is_sound-2.ensures.runner })
-    c.args.most c.write_debug_fault.result (read_end _ _ c.runner-2.ensures (c.if-is_at_end.ensures.0 refl))
+    none_plays c.write_debug_fault.result (work c.args.book.now c.args.worker.now) (step_count c.args.worker.now.runner c.args.most)
+    (least_within c.args.most (steps_ahead c.args.worker.now.runner)) c.if-is_at_end.ensures
 
 pub returns-then-is_at_end-clause-text : goal.returns-then-is_at_end-clause-text
 returns-then-is_at_end-clause-text g c =
     answered c.write_debug_fault.result c.args.text.now.items c.write_debug_fault.new.text.items (debug_refusal AtEnd) _
-    (step_refused_lines (work c.args.book.now c.args.worker.now)
-    (record { tiling = c.is_sound.ensures.tiling; holds = c.requires.holds; runner = subst IsRunner c.runner.ensures c.is_sound-2.ensures.runner })
-    c.args.most (read_end _ _ c.runner-2.ensures (c.if-is_at_end.ensures.0 refl)))
-    c.write_debug_fault.ensures
+    (rw (← c.if-is_at_end.ensures) refl) c.write_debug_fault.ensures
 
 pub returns-in_err-moved-clause-acts : goal.returns-in_err-moved-clause-acts
 returns-in_err-moved-clause-acts g c =
@@ -52,12 +47,11 @@ returns-then-is_at_end-2-clause-text g c =
     let n = step_count c.args.worker.now.runner c.args.most in
     let s : IsWork (work c.args.book.now c.args.worker.now) = record { tiling = c.is_sound.ensures.tiling; holds = c.requires.holds; runner = subst IsRunner c.runner.ensures c.is_sound-2.ensures.runner } in
     let came = came_to u s n v (step_within u s c.args.most) c.in_ok-moved.ensures.acts.0 in
-    let lines = step_to_end u s c.args.most (λ e. false≢true (c.if-is_at_end.ensures.1 (read_end _ _ (sym c.runner-2.ensures) e))) v came
-    (read_end _ _ c.runner-3.ensures (c.if-is_at_end-2.ensures.0 refl)) in
     let walked = walk_text c.args.worker.now.runner n c.in_ok-moved.moved c.walk.new.worker.runner.position c.args.text.now.items c.walk.new.text.items c.write_moved.new.text.items
     c.in_ok-moved.ensures.count (stands_at u n v came) c.in_ok-moved.ensures.text c.in_ok-write_moved.ensures in
     when_ok c.write_plain.result
-    (λ e. line_more _ (plain End) c.args.text.now.items c.write_moved.new.text.items c.write_plain.new.text.items walked e ∙ ap (λ ls. c.args.text.now.items ++ text_of ls) (sym lines))
+    (λ e. line_more _ (plain End) c.args.text.now.items c.write_moved.new.text.items c.write_plain.new.text.items walked e
+    ∙ ap (λ ls. c.args.text.now.items ++ text_of ls) (sym (step_lines_are u s c.args.most c.if-is_at_end.ensures v came true c.if-is_at_end-2.ensures)))
     c.write_plain.ensures
 
 pub returns-clause-text : goal.returns-clause-text
@@ -67,8 +61,7 @@ returns-clause-text g c =
     let n = step_count c.args.worker.now.runner c.args.most in
     let s : IsWork (work c.args.book.now c.args.worker.now) = record { tiling = c.is_sound.ensures.tiling; holds = c.requires.holds; runner = subst IsRunner c.runner.ensures c.is_sound-2.ensures.runner } in
     let came = came_to u s n v (step_within u s c.args.most) c.in_ok-moved.ensures.acts.0 in
-    let lines = step_not_to_end u s c.args.most (λ e. false≢true (c.if-is_at_end.ensures.1 (read_end _ _ (sym c.runner-2.ensures) e))) v came
-    (λ e. false≢true (c.if-is_at_end-2.ensures.1 (read_end _ _ (sym c.runner-3.ensures) e))) in
+    let lines = step_lines_are u s c.args.most c.if-is_at_end.ensures v came false c.if-is_at_end-2.ensures ∙ append-nil (walk_lines c.args.worker.now.runner n) in
     walk_text c.args.worker.now.runner n c.in_ok-moved.moved c.walk.new.worker.runner.position c.args.text.now.items c.walk.new.text.items c.write_moved.new.text.items
     c.in_ok-moved.ensures.count (stands_at u n v came) c.in_ok-moved.ensures.text c.in_ok-write_moved.ensures
     ∙ ap (λ ls. c.args.text.now.items ++ text_of ls) (sym lines)

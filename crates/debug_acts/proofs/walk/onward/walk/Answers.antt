@@ -1,11 +1,10 @@
 use Rattle.std.proofs.Common.{◌-◌, Some, subst, sym, refl, arith}
-use Rattle.std.proofs.lemmas.Bool.{false≢true}
 use Rattle.x_branches.specs.Runner.{IsRunner}
 use Rattle.debug_acts.specs.Walk.{steps_ahead}
-use Rattle.debug_acts.proofs.CountLemmas.{least_first}
+use Rattle.debug_acts.proofs.ForwardLemmas.{least_first, not_zero}
 use Rattle.debug_acts.proofs.WorkLemmas.{work}
 use Rattle.debug_acts.proofs.LeadLemmas.{plays_err}
-use Rattle.debug_acts.proofs.WalkedLemmas.{none_walked, walked_join, ahead_of, read_end, all_counted, counted_leads, counted_text, counted_part, seat_on}
+use Rattle.debug_acts.proofs.WalkedLemmas.{none_walked, walked_join, all_counted, counted_leads, counted_text, counted_part, seat_on}
 use Rattle.debug_acts.proofs.walk.onward.walk.Goals as goal
 
 pub loop-taken-init : goal.loop-taken-init
@@ -17,19 +16,19 @@ loop-taken-init g c = (
 
 pub returns-then-is_at_end-clause-count : goal.returns-then-is_at_end-clause-count
 returns-then-is_at_end-clause-count g c =
-    all_counted _ _ _ _ _ c.loop-taken.invariant.0 c.args.most c.loop-taken.invariant.1 (read_end _ _ c.runner-in-loop-taken.ensures (c.if-is_at_end.ensures.0 refl))
+    all_counted _ _ _ _ _ c.loop-taken.invariant.0 c.args.most c.loop-taken.invariant.1 c.if-is_at_end.ensures
 
 pub returns-then-is_at_end-clause-acts : goal.returns-then-is_at_end-clause-acts
 returns-then-is_at_end-clause-acts g c = (
   counted_leads _ _ _ _ _ c.loop-taken.invariant.0 _
-      (all_counted _ _ _ _ _ c.loop-taken.invariant.0 c.args.most c.loop-taken.invariant.1 (read_end _ _ c.runner-in-loop-taken.ensures (c.if-is_at_end.ensures.0 refl))),
+      (all_counted _ _ _ _ _ c.loop-taken.invariant.0 c.args.most c.loop-taken.invariant.1 c.if-is_at_end.ensures),
   tt,
 )
 
 pub returns-then-is_at_end-clause-text : goal.returns-then-is_at_end-clause-text
 returns-then-is_at_end-clause-text g c =
     counted_text _ _ _ _ _ c.loop-taken.invariant.0 _
-    (all_counted _ _ _ _ _ c.loop-taken.invariant.0 c.args.most c.loop-taken.invariant.1 (read_end _ _ c.runner-in-loop-taken.ensures (c.if-is_at_end.ensures.0 refl)))
+    (all_counted _ _ _ _ _ c.loop-taken.invariant.0 c.args.most c.loop-taken.invariant.1 c.if-is_at_end.ensures)
 
 pub returns-then-is_at_end-clause-seat : goal.returns-then-is_at_end-clause-seat
 returns-then-is_at_end-clause-seat g c = c.loop-taken.invariant.0.seat
@@ -39,7 +38,7 @@ walk_on-requires-clause-holds g c = c.loop-taken.invariant.0.seat.1
 
 pub walk_on-requires-clause-ahead : goal.walk_on-requires-clause-ahead
 walk_on-requires-clause-ahead g c =
-    ahead_of _ _ _ _ _ c.loop-taken.invariant.0 (λ e. false≢true (c.if-is_at_end.ensures.1 (read_end _ _ (sym c.runner-in-loop-taken.ensures) e)))
+    not_zero (steps_ahead c.loop-taken.worker.runner) c.if-is_at_end.ensures
 
 pub returns-in_err-steps-clause-acts : goal.returns-in_err-steps-clause-acts
 returns-in_err-steps-clause-acts g c =

@@ -14,7 +14,7 @@ use Rattle.debug_language.specs.declared.question.Question.TheVariants as questi
 use Rattle.debug_language.specs.Command as command
 use Rattle.x_debug.specs.Session.{SessionValue, fresh_session, session_on}
 use Rattle.x_debug.specs.Questions.{lines_asked, question_lines}
-use Rattle.x_debug.specs.Commands.{answer, deed_of, left_by, MayLeave}
+use Rattle.x_debug.specs.Commands.{answer, deed_of, left_by, IsLeftBy}
 use Rattle.x_debug.specs.LoadedTexts.{load_answer}
 
 -- the session of the small problem's whole run, with no branch open
@@ -56,7 +56,7 @@ unfolding deed_of
 kept_once = refl
 
 -- where memory runs out, a command that shows leaves the session as it was
-shows_alone : (new : SessionValue) → MayLeave resting (deed_of resting (command.Ask questions.Show)) new → new ≡ resting
+shows_alone : (new : SessionValue) → let d = deed_of resting (command.Ask questions.Show) in IsLeftBy resting d.acts d.most new → new ≡ resting
 unfolding deed_of
 shows_alone new h = let none : h.count ≡ 0 = (let l = h.within in omega arith) in
     h.left ∙ ap (λ (n : ℕ). left_by resting (take n [])) none

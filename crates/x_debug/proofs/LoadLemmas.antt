@@ -1,5 +1,5 @@
 -- A session that goes on from a snapshot.
-use Rattle.std.proofs.Common.{◌≡◌, ℕ, true, false, cond, List, ◌++◌, Option, Some, Result, Ok, Err, OnOk, unwrap_or, refl, sym, ap, ap₂, ◌∙◌, subst}
+use Rattle.std.proofs.Common.{◌≡◌, ℕ, true, false, cond, List, ◌++◌, Option, Some, Result, Ok, Err, OnOk, is_some, refl, sym, ap, ap₂, ◌∙◌, subst}
 use Rattle.std.specs.List.{list_all}
 use Rattle.std.proofs.lemmas.Bool.{and_parts}
 use Rattle.text_lines.specs.Writing.{line_text}
@@ -12,7 +12,7 @@ use Rattle.x_branches.specs.Refusals.{CanStart}
 use Rattle.x_texts.specs.declared.breakpoint.Break.{Break}
 use Rattle.x_snapshot.specs.declared.fault.SnapshotFault.{SnapshotFault}
 use Rattle.x_snapshot.specs.declared.fault.SnapshotFault.TheVariants as snapshot
-use Rattle.x_snapshot.specs.Faults.{number_of, name_of}
+use Rattle.x_snapshot.specs.Faults.{number_of}
 use Rattle.x_texts.specs.Breaks.{is_break, are_new, are_breaks}
 use Rattle.x_snapshot.specs.Snapshot.{SnapshotValue, branch_between}
 use Rattle.x_snapshot.specs.Judged.{judged_parts, judged, snapshot_of}
@@ -22,16 +22,14 @@ use Rattle.lab_history.specs.declared.entry.Call.TheVariants as call
 use Rattle.lab_book.specs.Tiling.{IsTiling}
 use Rattle.lab_book.specs.Book.{BookValue, new_book, outcome, book_step}
 use Rattle.lab_world.specs.Worker.{WorkerValue, StandsAtFirst, lent_worker}
-use Rattle.lab_world.specs.World.{WorldValue, IsSeat}
+use Rattle.lab_world.specs.World.{WorldValue, IsSeat, worker_at}
 use Rattle.lab_world.specs.Alone.{alone}
 use Rattle.lab_world.proofs.TurnLemmas.{lease_any_seat}
-use Rattle.debug_language.specs.declared.words.Layer.TheVariants as layer
-use Rattle.debug_language.specs.Replies.{refused_words}
-use Rattle.debug_acts.specs.Lines.{state_line, book_refusal, snapshot_refusal}
+use Rattle.debug_language.specs.Replies.{state_line, snapshot_refusal}
+use Rattle.debug_acts.specs.Answer.{book_refusal}
 use Rattle.x_debug.specs.Session.{SessionValue, entered}
-use Rattle.x_debug.specs.LoadedTexts.{resumed, with_some, seated, loaded}
 use Rattle.x_debug.specs.Commands.{Answer}
-use Rattle.x_debug.specs.LoadedTexts.{answers, load_by, load_answer}
+use Rattle.x_debug.specs.LoadedTexts.{resumed, breaks_of, loaded, answers, load_by, load_answer}
 
 -- ---- the session that goes on
 
@@ -65,13 +63,16 @@ module _ (v : SnapshotValue) (b : BookValue) (x : Option WorkerValue) (made : al
   pub world_problem : (p : ProblemValue) → v.problem ≡ p → b.problem ≡ p
   world_problem p same = ap (λ (d : WorldValue). d.book.problem) made ∙ same
 
-  pub met_by_seated : (t s : SessionValue) → t ≡ seated s (alone b x) → (breaks : List Break) → breaks ≡ v.breaks → are_breaks v.problem v.breaks ≡ true → list_all (is_break t.book.problem) breaks ≡ true
+  pub met_by_seated : (t s : SessionValue) → t ≡ record s { book = b; worker = x } → (breaks : List Break) → breaks ≡ v.breaks → are_breaks v.problem v.breaks ≡ true → list_all (is_break t.book.problem) breaks ≡ true
   met_by_seated t s e breaks h g =
       let problem : t.book.problem ≡ v.problem = ap (λ (u : SessionValue). u.book.problem) e ∙ ap (λ (d : WorldValue). d.book.problem) made in
       rw (problem, h) (and_parts (list_all (is_break v.problem) v.breaks) (are_new v.breaks) g).0
 
-  pub loaded_is : (s t u : SessionValue) → t ≡ seated s (alone b x) → (breaks : List Break) → breaks ≡ v.breaks → u ≡ with_some t breaks → u ≡ loaded s v
-  loaded_is s t u e breaks h f = f ∙ ap₂ with_some e h ∙ ap (λ (d : WorldValue). with_some (seated s d) v.breaks) made
+  pub loaded_is : (s t u : SessionValue) → t ≡ record s { book = b; worker = x } → (breaks : List Break) → breaks ≡ v.breaks
+      → u ≡ record t { breaks = breaks_of t.breaks breaks } → u ≡ loaded s v
+  loaded_is s t u e breaks h f =
+      f ∙ ap₂ (λ (y : SessionValue) (bs : List Break). record y { breaks = breaks_of y.breaks bs }) e h
+      ∙ ap (λ (d : WorldValue). record s { book = d.book; worker = worker_at d.workers 0; breaks = breaks_of s.breaks v.breaks }) made
 
 -- ---- what is answered
 
@@ -103,21 +104,17 @@ module _ (s : SessionValue) (bytes : List ℕ) where
 
 -- a text that says what is judged so, and is none
 module _ (s : SessionValue) (found : Result SnapshotValue SnapshotFault) where
-  none_answer : (f : SnapshotFault) → found ≡ Err f → load_by s found ≡ answers (snapshot_refusal f) s
-  none_answer f e = ap (load_by s) e
+  -- a fault that has a number isn't want of memory
+  none_answer : (f : SnapshotFault) → ((f ≡ snapshot.OutOfMemory → ⊥) → found ≡ Err f) → is_some (number_of f) ≡ true
+      → load_by s found ≡ answers (snapshot_refusal f) s
+  none_answer f r some = ap (load_by s) (r (λ m. let h = sym some ∙ ap (λ x. is_some (number_of x)) m in absurd (cc)))
 
-  abbrev Told : SnapshotFault → List ℕ → List ℕ → Type 0
-  Told f old new = (n : ℕ) × (number_of f ≡ Some n) × (new ≡ old ++ line_text (refused_words layer.Snapshot n (name_of f)))
+  pub none_said : {X E : Type 0} (r : Result X E) (f : SnapshotFault) (old new : List ℕ) → ((f ≡ snapshot.OutOfMemory → ⊥) → found ≡ Err f)
+      → OnOk r (is_some (number_of f) ≡ true) → OnOk r (new ≡ old ++ line_text (snapshot_refusal f)) → OnOk r (new ≡ old ++ (load_by s found).text)
+  none_said (Ok x) f old new r some w = w ∙ ap (λ (d : Answer). old ++ d.text) (sym (none_answer f r some))
+  none_said (Err x) f old new r some w = tt
 
-  told_answer : (f : SnapshotFault) (old new : List ℕ) → ((f ≡ snapshot.OutOfMemory → ⊥) → found ≡ Err f) → Told f old new → load_by s found ≡ answers (snapshot_refusal f) s
-  told_answer f old new r w = none_answer f (r (λ m. let h = sym w.1 ∙ ap number_of m in absurd (cc)))
-
-  pub none_said : {X E : Type 0} (r : Result X E) (f : SnapshotFault) (old new : List ℕ) → ((f ≡ snapshot.OutOfMemory → ⊥) → found ≡ Err f) → OnOk r (Told f old new) → OnOk r (new ≡ old ++ (load_by s found).text)
-  none_said (Ok x) f old new r w =
-      let number : w.0 ≡ unwrap_or (number_of f) 0 = ap (λ (o : Option ℕ). unwrap_or o 0) (sym w.1) in
-      w.2 ∙ ap (λ n. old ++ line_text (refused_words layer.Snapshot n (name_of f))) number ∙ ap (λ (d : Answer). old ++ d.text) (sym (told_answer f old new r w))
-  none_said (Err x) f old new r w = tt
-
-  pub none_left : {X E : Type 0} (r : Result X E) (f : SnapshotFault) (old new : List ℕ) → ((f ≡ snapshot.OutOfMemory → ⊥) → found ≡ Err f) → OnOk r (Told f old new) → OnOk r (s ≡ (load_by s found).session)
-  none_left (Ok x) f old new r w = ap (λ (d : Answer). d.session) (sym (told_answer f old new r w))
-  none_left (Err x) f old new r w = tt
+  pub none_left : {X E : Type 0} (r : Result X E) (f : SnapshotFault) → ((f ≡ snapshot.OutOfMemory → ⊥) → found ≡ Err f)
+      → OnOk r (is_some (number_of f) ≡ true) → OnOk r (s ≡ (load_by s found).session)
+  none_left (Ok x) f r some = ap (λ (d : Answer). d.session) (sym (none_answer f r some))
+  none_left (Err x) f r some = tt

@@ -6,15 +6,12 @@
 --
 -- Example: with no branch open, `open start` answers `at X1 -`, and `step` is refused; with one open, `open` is. A breakpoint that is set twice
 -- is kept once. proofs/CommandExamples.antt computes these.
-use Rattle.std.specs.Prelude.{ℕ, ◌≡◌, ◌≤◌, ◌-◌, nat_lt, Bool, true, List, [], ◌∷◌, length, take, replicate, Option, Some, None, Result, OnOk, OnErr}
+use Rattle.std.specs.Prelude.{ℕ, ◌≡◌, ◌≤◌, ◌-◌, nat_lt, Bool, true, List, [], ◌∷◌, codes, length, take, replicate, Option, Some, None, Result, OnOk, OnErr}
 use Rattle.std.specs.Global.{Vec}
-use Rattle.std.specs.Borrow.{Bor}
 use Rattle.text_lines.specs.Writing.{line_text, text_of}
 use Rattle.shared_words.specs.Answers.{Adds}
 use Rattle.cover_problem.specs.Problem.{ProblemValue}
-use Rattle.x_steps.specs.declared.state.State.{State}
 use Rattle.x_steps.specs.StateValue.{StateValue}
-use Rattle.x_steps.specs.StateView.{state_value}
 use Rattle.x_texts.specs.declared.breakpoint.Break.{Break}
 use Rattle.x_texts.specs.Breaks.{is_break}
 use Rattle.lab_history.specs.declared.fault.BookFault.TheVariants.{UnknownBranch}
@@ -28,19 +25,19 @@ use Rattle.lab_world.specs.Alone.{alone, own_events}
 use Rattle.debug_language.specs.declared.fault.DebugFault.TheVariants.{BadCommand, AlreadyOpen, NoBranch}
 use Rattle.debug_language.specs.declared.words.Counted.TheVariants as counts
 use Rattle.debug_language.specs.declared.words.Plain.TheVariants.{Parked}
-use Rattle.debug_language.specs.declared.command.Command.{Command}
-use Rattle.debug_language.specs.Command.{CommandValue, command_value}
+use Rattle.debug_language.specs.Command.{CommandValue}
 use Rattle.debug_language.specs.Command as command
 use Rattle.debug_language.specs.Reader.{command_of}
 use Rattle.debug_acts.specs.Breakpoints.{with_break}
-use Rattle.debug_acts.specs.Lines.{plain, counted, set, debug_refusal, book_refusal}
-use Rattle.debug_acts.specs.Tiles.{given_cut, place_at}
+use Rattle.debug_language.specs.Replies.{plain, counted, debug_refusal}
+use Rattle.x_texts.specs.Words.{keyed_point}
+use Rattle.debug_acts.specs.Tiles.{place_at}
 use Rattle.debug_acts.specs.declared.answer.Told.{Told}
 use Rattle.debug_acts.specs.declared.answer.Told.TheVariants as told
 use Rattle.debug_acts.specs.Walk.{step_count, step_lines, run_count, run_lines, back_count, back_lines}
 use Rattle.debug_acts.specs.Acts.{walk_acts, end_acts, close_acts, enter_act}
-use Rattle.debug_acts.specs.Answer.{told_lines}
-use Rattle.debug_acts.specs.Ends.{save_text, close_line}
+use Rattle.debug_acts.specs.Answer.{told_lines, book_refusal}
+use Rattle.debug_acts.specs.Answer.{save_text, close_line}
 use Rattle.x_debug.specs.Session.{SessionValue}
 use Rattle.x_debug.specs.Questions.{lines_asked}
 
@@ -48,10 +45,6 @@ use Rattle.x_debug.specs.Questions.{lines_asked}
 pub record Answer : Type 0 where
   pub text : List ℕ
   pub session : SessionValue
-
--- a call replies with this answer's text, unless it has an error
-abbrev pub Replies : {X E : Type 0} → Result X E → Vec ℕ → Vec ℕ → Answer → Type 0
-Replies result old new a = Adds result old new a.text
 
 -- ---- a session and its world
 
@@ -133,7 +126,7 @@ back_deed s n = if_open s s.worker (λ w. does s (back_lines w.runner n) (replic
 
 -- `break`: b is a breakpoint now, after those that were set before; it stays where it is if it is one already
 abbrev pub break_deed : SessionValue → Break → Deed
-break_deed s b = with_breaks (with_break s.breaks b) (set s.book.problem.names b ∷ [])
+break_deed s b = with_breaks (with_break s.breaks b) (keyed_point (codes "set") s.book.problem b ∷ [])
 
 -- `clear`: no breakpoint is left, and the answer is how many there were
 abbrev pub clear_deed : SessionValue → Deed
@@ -159,10 +152,6 @@ close_deed s = if_open s s.worker (λ w. ends s (line_text (close_line s.worker)
 abbrev pub enter_deed : SessionValue → Option (List ℕ) → Deed
 enter_deed s lo = if_none_open s s.worker (on_tile s lo (λ i t. asks s (enter_act t) told.Place))
 
--- `retract`: the stretch that was posted last is taken out of the tile, and the mark goes back to where it began
-abbrev pub retract_deed : SessionValue → Deed
-retract_deed s = asks s Retract told.Retracted
-
 -- `hold`: the tile is asked to stop
 abbrev pub hold_deed : SessionValue → Option (List ℕ) → Deed
 hold_deed s lo = on_tile s lo (λ i t. asks s (RequestStop t.id) (told.Tile i))
@@ -170,20 +159,6 @@ hold_deed s lo = on_tile s lo (λ i t. asks s (RequestStop t.id) (told.Tile i))
 -- `putback`: the tile goes back to its mark that is this state
 abbrev pub put_back_deed : SessionValue → Option (List ℕ) → StateValue → Deed
 put_back_deed s lo state = on_tile s lo (λ i t. asks s (PutBack t.id state) (told.Tile i))
-
--- ---- the same of a cut and a state that a call is handed
-
--- `open`
-abbrev pub enter_by : SessionValue → Option (Bor (List ℕ)) → Deed
-enter_by s lo = enter_deed s (given_cut lo)
-
--- `hold`
-abbrev pub hold_by : SessionValue → Option (Bor (List ℕ)) → Deed
-hold_by s lo = hold_deed s (given_cut lo)
-
--- `putback`
-abbrev pub put_back_by : SessionValue → Option (Bor (List ℕ)) → State → Deed
-put_back_by s lo state = put_back_deed s (given_cut lo) (state_value state)
 
 -- ---- each command
 
@@ -202,7 +177,8 @@ deed_of s command.Save = save_deed s []
 deed_of s command.SaveBreaks = save_deed s s.breaks
 deed_of s command.Close = close_deed s
 deed_of s (command.Enter lo) = enter_deed s lo
-deed_of s command.Retract = retract_deed s
+-- the stretch that was posted last is taken out of the tile, and the mark goes back to where it began
+deed_of s command.Retract = asks s Retract told.Retracted
 deed_of s (command.Hold lo) = hold_deed s lo
 deed_of s (command.PutBack lo state) = put_back_deed s lo state
 
@@ -215,10 +191,6 @@ done_by s d = record { text = d.text; session = record (left_by s d.acts) { brea
 -- what session s answers to a command, and the session that is left
 abbrev pub answer : SessionValue → CommandValue → Answer
 answer s c = done_by s (deed_of s c)
-
--- what a command that was read does
-abbrev pub deed : SessionValue → Command → Deed
-deed s c = deed_of s (command_value c)
 
 -- whether a command can be one of a line: it counts from 1, and its breakpoint can be met
 abbrev pub is_command : ProblemValue → CommandValue → Bool
@@ -248,20 +220,11 @@ pub record IsLeftBy (s : SessionValue) (acts : List Act) (most : ℕ) (new : Ses
   pub within : count ≤ most
   pub left : new ≡ left_by s (take count acts)
 
--- which sessions a deed may leave
-abbrev pub MayLeave : SessionValue → Deed → SessionValue → Type 0
-MayLeave s d new = IsLeftBy s d.acts d.most new
-
 -- which sessions a line may leave
 abbrev pub IsLeft : SessionValue → List ℕ → SessionValue → Type 0
-IsLeft s line new = MayLeave s (deed_of_line s line) new
+IsLeft s line new = let d = deed_of_line s line in IsLeftBy s d.acts d.most new
 
 -- ---- what calls do
-
--- what isn't posted is posted, and then this act is done, which isn't where the call has an error
-abbrev pub EndsBy : {X E : Type 0} → Result X E → SessionValue → Act → SessionValue → Type 0
-EndsBy result s a new =
-    OnOk result (new ≡ left_by s (end_acts s.worker a)) × OnErr result (IsLeftBy s (end_acts s.worker a) (length (end_acts s.worker a) - 1) new)
 
 -- the snapshot of where a worker stands, with these breakpoints, or the refusal where there is none
 abbrev pub saved_or : Option WorkerValue → List Break → List ℕ
@@ -274,4 +237,4 @@ TellsDeed result old new d = Adds result old new d.text
 
 -- and leaves the session that the deed leaves; where it has one, some first ones of the acts are done
 abbrev pub DoesDeed : {X E : Type 0} → Result X E → SessionValue → SessionValue → Deed → Type 0
-DoesDeed result old new d = OnOk result (new ≡ (done_by old d).session) × OnErr result (MayLeave old d new)
+DoesDeed result old new d = OnOk result (new ≡ (done_by old d).session) × OnErr result (IsLeftBy old d.acts d.most new)

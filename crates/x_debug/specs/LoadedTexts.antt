@@ -9,11 +9,12 @@ use Rattle.x_branches.specs.Runner.{RunnerValue, runner_at}
 use Rattle.x_texts.specs.declared.breakpoint.Break.{Break}
 use Rattle.x_snapshot.specs.declared.fault.SnapshotFault.{SnapshotFault}
 use Rattle.x_snapshot.specs.Snapshot.{SnapshotValue, branch_between}
-use Rattle.x_snapshot.specs.Judged.{judged_parts, snapshot_of}
+use Rattle.x_snapshot.specs.Judged.{snapshot_of}
 use Rattle.lab_history.specs.declared.fault.BookFault.TheVariants.{ForeignProblem}
 use Rattle.lab_book.specs.Book.{new_book}
 use Rattle.lab_world.specs.World.{WorldValue, worker_at}
-use Rattle.debug_acts.specs.Lines.{state_line, book_refusal, snapshot_refusal}
+use Rattle.debug_language.specs.Replies.{state_line, snapshot_refusal}
+use Rattle.debug_acts.specs.Answer.{book_refusal}
 use Rattle.x_debug.specs.Session.{SessionValue, entered}
 use Rattle.x_debug.specs.Commands.{Answer}
 
@@ -32,14 +33,6 @@ abbrev pub breaks_of : List Break → List Break → List Break
 breaks_of old [] = old
 breaks_of old (b ∷ bs) = b ∷ bs
 
--- a session in the world of another book and its worker
-abbrev pub seated : SessionValue → WorldValue → SessionValue
-seated s d = record { book = d.book; worker = worker_at d.workers 0; breaks = s.breaks }
-
--- a session whose breakpoints are these of a snapshot, or its own where the snapshot has none
-abbrev pub with_some : SessionValue → List Break → SessionValue
-with_some s breaks = record { book = s.book; worker = s.worker; breaks = breaks_of s.breaks breaks }
-
 -- session s after snapshot v was loaded: in the world of the snapshot, and with its breakpoints, if it has some
 abbrev pub loaded : SessionValue → SnapshotValue → SessionValue
 loaded s v = record { book = (resumed v).book; worker = worker_at (resumed v).workers 0; breaks = breaks_of s.breaks v.breaks }
@@ -54,10 +47,6 @@ answers line s = record { text = line_text line; session = s }
 abbrev pub load_by : SessionValue → Result SnapshotValue SnapshotFault → Answer
 load_by s (Ok v) = if is_same v.problem s.book.problem then answers (state_line v.state) (loaded s v) else answers (book_refusal ForeignProblem) s
 load_by s (Err f) = answers (snapshot_refusal f) s
-
--- what was read of a text is loaded, if it is a snapshot, and else refused
-abbrev pub load_parts : SessionValue → SnapshotValue → Answer
-load_parts s v = load_by s (judged_parts v)
 
 -- what session s answers to a text that is loaded, and the session that is left
 unfoldable pub load_answer : SessionValue → List ℕ → Answer

@@ -12,7 +12,7 @@ use Rattle.debug_language.specs.declared.words.Plain.TheVariants.{NoBranches}
 use Rattle.debug_language.specs.declared.words.Counted.TheVariants as counts
 use Rattle.debug_language.specs.declared.question.Question.{Question}
 use Rattle.debug_language.specs.declared.question.Question.TheVariants as questions
-use Rattle.debug_acts.specs.Lines.{plain, counted, debug_refusal}
+use Rattle.debug_language.specs.Replies.{plain, counted, debug_refusal}
 use Rattle.debug_acts.specs.Overview.{show_lines, untried_lines, or_none}
 use Rattle.debug_acts.specs.Tiles.{open_lines, visits_lines}
 use Rattle.x_debug.specs.Session.{SessionValue}
@@ -45,20 +45,12 @@ abbrev pub branch_lines : (RunnerValue → List (List (List ℕ))) → Option Ru
 branch_lines f None = debug_refusal NoBranch ∷ []
 branch_lines f (Some r) = f r
 
--- what is shown of the open branch
-abbrev pub branch_shown : Option RunnerValue → List (List (List ℕ))
-branch_shown r = branch_lines show_lines r
-
--- what the open branch leaves untried
-abbrev pub branch_untried : Option RunnerValue → List (List (List ℕ))
-branch_untried r = branch_lines untried_lines r
-
 -- the lines of each question
 unfoldable pub question_lines : View → Question → List (List (List ℕ))
 -- where the search of the open branch stands, the branch, what is covered, and the items with the options left for them
-question_lines v questions.Show = branch_shown v.runner
+question_lines v questions.Show = branch_lines show_lines v.runner
 -- a line for each level of the open branch where an option is untried, or one line that says that there is none
-question_lines v questions.Untried = branch_untried v.runner
+question_lines v questions.Untried = branch_lines untried_lines v.runner
 -- a line for each tile that isn't closed, or one line that says that there is none
 question_lines v questions.Branches = or_none (plain NoBranches) v.branches
 -- the visits of all stretches that are posted, and how many they are

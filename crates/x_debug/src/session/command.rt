@@ -2,7 +2,7 @@
 ghost use Rattle.std.specs.Prelude.{◌≡◌, true, option_copied, IfOk, OnOk, OnErr};
 ghost use Rattle.x_snapshot.specs.Snapshot.{choices_of};
 ghost use Rattle.debug_language.specs.Command.{command_value};
-ghost use Rattle.x_debug.specs.Commands.{deed, answer_line, is_command, IsLeft, TellsDeed, DoesDeed};
+ghost use Rattle.x_debug.specs.Commands.{deed_of, answer_line, is_command, IsLeft, TellsDeed, DoesDeed};
 
 use crate::session::Session;
 use cover_problem::Table;
@@ -29,18 +29,17 @@ fn path_of(lo: &Option<Vec<u32>>) -> Option<&[u32]>
 }
 
 impl<'p, T: Table> Session<'p, T> {
-    /// Does what a command asks, and writes what is answered.
+    /// Does what a command asks, and writes what is answered. Out of memory some first ones of its acts are done.
     #[tactic(auto, unfolding(crate::specs::Commands::deed_of))]
-    fn obey(
-        &mut self,
-        alloc: Global,
-        command: &Command,
-        text: &mut Vec<u8>,
-    ) -> Result<(), AllocError>
+    pub fn obey(&mut self, command: &Command, text: &mut Vec<u8>) -> Result<(), AllocError>
         requires { is_command self.old.book.problem (command_value command.now) ≡ true }
-        ensures reply { TellsDeed result text.old text.new (deed self.old command.now) }
-        ensures session { DoesDeed result self.old self.new (deed self.old command.now) }
+        ensures reply { TellsDeed result text.old text.new
+            (deed_of self.old (command_value command.now)) }
+        ensures session { DoesDeed result self.old self.new
+            (deed_of self.old (command_value command.now)) }
     {
+        // A command brings no allocator along: what was made with the session serves.
+        let alloc = *self.breaks.allocator();
         match command {
             // Scripts may have empty lines.
             Command::Nothing => Ok(()),
@@ -69,11 +68,13 @@ impl<'p, T: Table> Session<'p, T> {
         ensures session { OnOk result (self.new ≡ (answer_line self.old line.now).session) }
         ensures left { OnErr result (IsLeft self.old line.now self.new) }
     {
-        // A line brings no allocator along: what was made with the session serves.
         let alloc = *self.breaks.allocator();
         let mut text = Vec::new(alloc);
-        match read_command(alloc, self.book.problem(), line) {
-            Ok(command) => self.obey(alloc, &command, &mut text)?,
+        let problem = self.book.problem();
+        // Tells that a breakpoint that was read over it can be met.
+        problem.is_sound();
+        match read_command(alloc, problem, line) {
+            Ok(command) => self.obey(&command, &mut text)?,
             Err(Refusal::Fault(fault)) => write_debug_fault(&mut text, fault)?,
             // No refusal: the line is a command.
             Err(Refusal::OutOfMemory) => return Err(AllocError),

@@ -2,7 +2,8 @@
 ghost use Rattle.std.specs.Prelude.{◌≡◌, [], true, is_some};
 ghost use Rattle.shared_words.specs.Answers.{Returns, Adds};
 ghost use Rattle.x_texts.specs.Breaks.{are_breaks};
-ghost use Rattle.x_debug.specs.Commands.{saved_or, park_deed, close_deed, save_deed, EndsBy, TellsDeed, DoesDeed};
+ghost use Rattle.debug_acts.specs.Acts.{end_acts};
+ghost use Rattle.x_debug.specs.Commands.{saved_or, park_deed, close_deed, save_deed, ends, TellsDeed, DoesDeed};
 
 use crate::session::Session;
 use cover_problem::Table;
@@ -15,7 +16,8 @@ use x_texts::Break;
 impl<'p, T: Table> Session<'p, T> {
     /// Posts what isn't posted, and then does an act. Out of memory that act isn't done.
     fn end(&mut self, alloc: Global, act: &Act) -> Result<(), AllocError>
-        ensures { EndsBy result self.old act.now self.new }
+        ensures { DoesDeed result self.old self.new
+            (ends self.old [] (end_acts self.old.worker act.now)) }
     {
         end_branch(alloc, &mut self.book, &mut self.worker, act)
     }

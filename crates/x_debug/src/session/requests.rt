@@ -1,9 +1,10 @@
 //! What a session asks of its worker, and of the tiles of its book, by one act.
 ghost use Rattle.std.specs.Prelude.{◌≡◌, ◌<◌, length, IfOk, IfSome, option_map};
 ghost use Rattle.lab_book.specs.Tiling.{tile_at};
+ghost use Rattle.x_steps.specs.StateView.{state_value};
 ghost use Rattle.debug_acts.specs.Tiles.{given_cut, place_at};
 ghost use Rattle.debug_acts.specs.Acts.{enter_act};
-ghost use Rattle.x_debug.specs.Commands.{asks, split_deed, enter_by, hold_by, put_back_by, TellsDeed, DoesDeed};
+ghost use Rattle.x_debug.specs.Commands.{asks, split_deed, enter_deed, hold_deed, put_back_deed, TellsDeed, DoesDeed};
 
 use crate::session::Session;
 use cover_problem::Table;
@@ -102,8 +103,10 @@ impl<'p, T: Table> Session<'p, T> {
         lo: Option<&[u32]>,
         text: &mut Vec<u8>,
     ) -> Result<(), AllocError>
-        ensures reply { TellsDeed result text.old text.new (hold_by self.old lo.entry) }
-        ensures session { DoesDeed result self.old self.new (hold_by self.old lo.entry) }
+        ensures reply { TellsDeed result text.old text.new
+            (hold_deed self.old (given_cut lo.entry)) }
+        ensures session { DoesDeed result self.old self.new
+            (hold_deed self.old (given_cut lo.entry)) }
     {
         let Some(place) = self.seek(lo) else {
             return write_book_fault(text, &BookFault::UnknownBranch);
@@ -121,8 +124,10 @@ impl<'p, T: Table> Session<'p, T> {
         state: &State,
         text: &mut Vec<u8>,
     ) -> Result<(), AllocError>
-        ensures reply { TellsDeed result text.old text.new (put_back_by self.old lo.entry state.now) }
-        ensures session { DoesDeed result self.old self.new (put_back_by self.old lo.entry state.now) }
+        ensures reply { TellsDeed result text.old text.new
+            (put_back_deed self.old (given_cut lo.entry) (state_value state.now)) }
+        ensures session { DoesDeed result self.old self.new
+            (put_back_deed self.old (given_cut lo.entry) (state_value state.now)) }
     {
         let Some(place) = self.seek(lo) else {
             return write_book_fault(text, &BookFault::UnknownBranch);
@@ -139,8 +144,10 @@ impl<'p, T: Table> Session<'p, T> {
         lo: Option<&[u32]>,
         text: &mut Vec<u8>,
     ) -> Result<(), AllocError>
-        ensures reply { TellsDeed result text.old text.new (enter_by self.old lo.entry) }
-        ensures session { DoesDeed result self.old self.new (enter_by self.old lo.entry) }
+        ensures reply { TellsDeed result text.old text.new
+            (enter_deed self.old (given_cut lo.entry)) }
+        ensures session { DoesDeed result self.old self.new
+            (enter_deed self.old (given_cut lo.entry)) }
     {
         // Before the cut is looked for: a branch that is open is refused whatever cut is named.
         if self.is_open() {

@@ -1,14 +1,14 @@
 //! A session goes on from a snapshot.
 ghost use Rattle.std.specs.Prelude.{◌≡◌, ◌↔◌, true, false, Some, IsTrue, IfOk, OnOk, OnErr};
 ghost use Rattle.std.specs.List.{list_all};
-ghost use Rattle.shared_words.specs.Answers.{Returns};
+ghost use Rattle.shared_words.specs.Answers.{Returns, Adds};
 ghost use Rattle.cover_problem.specs.Problem.{is_same};
 ghost use Rattle.x_texts.specs.Breaks.{is_break};
+ghost use Rattle.x_snapshot.specs.Judged.{judged_parts};
 ghost use Rattle.lab_book.specs.Book.{new_book};
 ghost use Rattle.lab_world.specs.World.{IsSeat};
 ghost use Rattle.lab_world.specs.Alone.{alone};
-ghost use Rattle.x_debug.specs.LoadedTexts.{started_on, resumed, with_some, seated, loaded, load_parts, load_answer};
-ghost use Rattle.x_debug.specs.Commands.{Replies};
+ghost use Rattle.x_debug.specs.LoadedTexts.{started_on, resumed, breaks_of, loaded, load_by, load_answer};
 
 use crate::session::{Reply, Session};
 use cover_problem::{Problem, Table};
@@ -72,7 +72,7 @@ impl<'p, T: Table> Session<'p, T> {
     fn sit_down(&mut self, book: Book<'p>, worker: Option<Worker<'p, T>>)
         requires problem { book.problem ≡ self.old.book.problem }
         requires seat { IsSeat book 0 worker }
-        ensures { self.new ≡ seated self.old (alone book.entry worker.entry) }
+        ensures { self.new ≡ record self.old { book = book.entry; worker = worker.entry } }
     {
         self.book = book;
         self.worker = worker;
@@ -81,7 +81,7 @@ impl<'p, T: Table> Session<'p, T> {
     /// Goes on with these breakpoints, if there are some.
     fn take_breaks(&mut self, breaks: IndexSet<Break>)
         requires { list_all (is_break self.old.book.problem) breaks.keys ≡ true }
-        ensures { self.new ≡ with_some self.old breaks.keys }
+        ensures { self.new ≡ record self.old { breaks = breaks_of self.old.breaks breaks.keys } }
     {
         // A snapshot without breakpoints says nothing of them.
         if !breaks.is_empty() {
@@ -115,8 +115,10 @@ impl<'p, T: Table> Session<'p, T> {
     fn go_on(&mut self, alloc: Global, draft: &Draft, text: &mut Vec<u8>) -> Result<(), AllocError>
         requires same { draft.now.problem ≡ self.old.book.problem }
         requires test { is_same draft.now.problem self.old.book.problem ≡ true }
-        ensures reply { Replies result text.old text.new (load_parts self.old draft.now) }
-        ensures session { OnOk result (self.new ≡ (load_parts self.old draft.now).session) }
+        ensures reply { Adds result text.old text.new
+            (load_by self.old (judged_parts draft.now)).text }
+        ensures session { OnOk result
+            (self.new ≡ (load_by self.old (judged_parts draft.now)).session) }
         ensures unchanged { OnErr result (self.new ≡ self.old) }
     {
         match draft.runner(alloc, self.book.problem()) {
@@ -137,8 +139,10 @@ impl<'p, T: Table> Session<'p, T> {
         text: &mut Vec<u8>,
     ) -> Result<(), AllocError>
         requires { is_same draft.now.problem self.now.book.problem ≡ false }
-        ensures reply { Replies result text.old text.new (load_parts self.now draft.now) }
-        ensures session { OnOk result (self.now ≡ (load_parts self.now draft.now).session) }
+        ensures reply { Adds result text.old text.new
+            (load_by self.now (judged_parts draft.now)).text }
+        ensures session { OnOk result
+            (self.now ≡ (load_by self.now (judged_parts draft.now)).session) }
     {
         // What is no snapshot of its own problem has a fault of its own, which is told.
         match draft.check(alloc) {
@@ -155,17 +159,15 @@ impl<'p, T: Table> Session<'p, T> {
         draft.problem().same(self.book.problem())
     }
 
-    /// Reads a snapshot and goes on from it, and writes what is answered.
-    fn obey_load(
-        &mut self,
-        alloc: Global,
-        bytes: &[u8],
-        text: &mut Vec<u8>,
-    ) -> Result<(), AllocError>
-        ensures reply { Replies result text.old text.new (load_answer self.old bytes.now) }
+    /// Loads a snapshot, and writes what is answered: the session goes on where it was saved, with its branch open in a new book, and
+    /// with its breakpoints, where it has some. Refused, and told in the text, where the bytes are none or another problem's; nothing has
+    /// changed then, nor when out of memory.
+    pub fn obey_load(&mut self, bytes: &[u8], text: &mut Vec<u8>) -> Result<(), AllocError>
+        ensures reply { Adds result text.old text.new (load_answer self.old bytes.now).text }
         ensures session { OnOk result (self.new ≡ (load_answer self.old bytes.now).session) }
         ensures unchanged { OnErr result (self.new ≡ self.old) }
     {
+        let alloc = *self.breaks.allocator();
         let draft = match read_draft(alloc, bytes) {
             Ok(draft) => draft,
             Err(fault) => return write_snapshot_fault(text, fault),
@@ -176,9 +178,7 @@ impl<'p, T: Table> Session<'p, T> {
         self.go_on(alloc, &draft, text)
     }
 
-    /// Loads a snapshot: the session goes on where it was saved, with its branch open in a new book, and with its breakpoints,
-    /// where it has some. Refused, and told in the reply, where the text is none or another problem's; nothing has changed then,
-    /// nor when out of memory.
+    /// The same, with a text of its own.
     pub fn load(&mut self, bytes: &[u8]) -> Result<Reply, AllocError>
         ensures reply { IfOk result (λ r. r.text.items ≡ (load_answer self.old bytes.now).text) }
         ensures session { OnOk result (self.new ≡ (load_answer self.old bytes.now).session) }
@@ -186,7 +186,7 @@ impl<'p, T: Table> Session<'p, T> {
     {
         let alloc = *self.breaks.allocator();
         let mut text = Vec::new(alloc);
-        self.obey_load(alloc, bytes, &mut text)?;
+        self.obey_load(bytes, &mut text)?;
         Ok(Reply { text })
     }
 }

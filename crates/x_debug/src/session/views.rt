@@ -1,6 +1,7 @@
 //! What is shown of a session.
 ghost use Rattle.text_lines.specs.Writes.{AddsLines};
-ghost use Rattle.x_debug.specs.Questions.{runner_of, branch_shown, branch_untried, lines_asked};
+ghost use Rattle.x_debug.specs.Questions.{runner_of, branch_lines, lines_asked};
+ghost use Rattle.debug_acts.specs.Overview.{show_lines, untried_lines};
 
 use crate::session::Session;
 use cover_problem::Table;
@@ -12,7 +13,8 @@ use x_texts::write_levels;
 impl<'p, T: Table> Session<'p, T> {
     /// Where the search of the open branch stands.
     fn show(&self, text: &mut Vec<u8>) -> Result<(), AllocError>
-        ensures { AddsLines result text.old text.new (branch_shown (runner_of self.now.worker)) }
+        ensures { AddsLines result text.old text.new
+            (branch_lines show_lines (runner_of self.now.worker)) }
     {
         let Some(worker) = &self.worker else {
             return write_debug_fault(text, DebugFault::NoBranch);
@@ -22,7 +24,8 @@ impl<'p, T: Table> Session<'p, T> {
 
     /// The options of the open branch that are untried.
     fn untried(&self, text: &mut Vec<u8>) -> Result<(), AllocError>
-        ensures { AddsLines result text.old text.new (branch_untried (runner_of self.now.worker)) }
+        ensures { AddsLines result text.old text.new
+            (branch_lines untried_lines (runner_of self.now.worker)) }
     {
         let Some(worker) = &self.worker else {
             return write_debug_fault(text, DebugFault::NoBranch);

@@ -1,7 +1,7 @@
 use Rattle.std.proofs.Common.{◌-◌, length, refl, sym}
 use Rattle.text_lines.specs.Writing.{line_text}
 use Rattle.debug_acts.specs.Acts.{close_acts}
-use Rattle.debug_acts.specs.Ends.{close_line}
+use Rattle.debug_acts.specs.Answer.{close_line}
 use Rattle.x_debug.specs.Commands.{ends}
 use Rattle.debug_acts.proofs.LeadLemmas.{plays_problem}
 use Rattle.x_debug.proofs.SessionLemmas.{changed_session, plays_left, open_is, does_same, tells_same}

@@ -2,7 +2,7 @@ use Rattle.std.proofs.Common.{◌≡◌, ℕ, List, ◌++◌, sym, ap, ◌∙◌
 use Rattle.text_lines.specs.Writing.{line_text}
 use Rattle.cover_problem.specs.Problem.{ProblemValue}
 use Rattle.x_snapshot.specs.Judged.{judged_parts}
-use Rattle.debug_acts.specs.Lines.{state_line}
+use Rattle.debug_language.specs.Replies.{state_line}
 use Rattle.x_debug.specs.Session.{SessionValue}
 use Rattle.x_debug.specs.LoadedTexts.{loaded, answers, load_by}
 use Rattle.debug_acts.proofs.LineLemmas.{on_ok}
@@ -35,9 +35,9 @@ returns-in_ok-write_at-in-Ok-clause-session g c =
 pub returns-in-Err-clause-reply : goal.returns-in-Err-clause-reply
 returns-in-Err-clause-reply g c =
     none_said c.args.self.now (judged_parts c.args.draft.now) c.write_snapshot_fault.result c.in-Err.fault c.args.text.now.items c.write_snapshot_fault.new.text.items
-    c.in-Err.ensures.fault c.write_snapshot_fault.ensures
+    c.in-Err.ensures.fault c.write_snapshot_fault.ensures.numbered c.write_snapshot_fault.ensures.line
 
 pub returns-in-Err-clause-session : goal.returns-in-Err-clause-session
 returns-in-Err-clause-session g c =
-    none_left c.args.self.now (judged_parts c.args.draft.now) c.write_snapshot_fault.result c.in-Err.fault c.args.text.now.items c.write_snapshot_fault.new.text.items
-    c.in-Err.ensures.fault c.write_snapshot_fault.ensures
+    none_left c.args.self.now (judged_parts c.args.draft.now) c.write_snapshot_fault.result c.in-Err.fault
+    c.in-Err.ensures.fault c.write_snapshot_fault.ensures.numbered

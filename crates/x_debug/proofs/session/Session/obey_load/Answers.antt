@@ -7,13 +7,13 @@ pub returns-in-Err-clause-reply : goal.returns-in-Err-clause-reply
 returns-in-Err-clause-reply g c =
     said c.write_snapshot_fault.result c.args.text.now.items c.write_snapshot_fault.new.text.items _ _ (load_is c.args.self.now c.args.bytes.now)
     (none_said c.args.self.now (snapshot_of c.args.bytes.now) c.write_snapshot_fault.result c.in-Err.fault c.args.text.now.items c.write_snapshot_fault.new.text.items
-    (λ n. ap judged (c.in-Err.ensures.fault n)) c.write_snapshot_fault.ensures)
+    (λ n. ap judged (c.in-Err.ensures.fault n)) c.write_snapshot_fault.ensures.numbered c.write_snapshot_fault.ensures.line)
 
 pub returns-in-Err-clause-session : goal.returns-in-Err-clause-session
 returns-in-Err-clause-session g c =
     left c.write_snapshot_fault.result c.args.self.now _ _ (load_is c.args.self.now c.args.bytes.now)
-    (none_left c.args.self.now (snapshot_of c.args.bytes.now) c.write_snapshot_fault.result c.in-Err.fault c.args.text.now.items c.write_snapshot_fault.new.text.items
-    (λ n. ap judged (c.in-Err.ensures.fault n)) c.write_snapshot_fault.ensures)
+    (none_left c.args.self.now (snapshot_of c.args.bytes.now) c.write_snapshot_fault.result c.in-Err.fault
+    (λ n. ap judged (c.in-Err.ensures.fault n)) c.write_snapshot_fault.ensures.numbered)
 
 pub returns-then-not-is_own-clause-reply : goal.returns-then-not-is_own-clause-reply
 returns-then-not-is_own-clause-reply g c =

@@ -1,6 +1,6 @@
 use Rattle.std.proofs.Common.{refl, ap, ◌∙◌}
 use Rattle.lab_history.specs.declared.fault.BookFault.TheVariants.{ForeignProblem}
-use Rattle.debug_acts.specs.Lines.{book_refusal}
+use Rattle.debug_acts.specs.Answer.{book_refusal}
 use Rattle.debug_acts.proofs.LineLemmas.{on_ok}
 use Rattle.x_snapshot.specs.Judged.{judged_parts}
 use Rattle.x_debug.specs.LoadedTexts.{answers, load_by}
@@ -20,9 +20,9 @@ returns-in-Ok-clause-session g c =
 pub returns-in-Err-clause-reply : goal.returns-in-Err-clause-reply
 returns-in-Err-clause-reply g c =
     none_said c.args.self.now (judged_parts c.args.draft.now) c.write_snapshot_fault.result c.in-Err.fault c.args.text.now.items c.write_snapshot_fault.new.text.items
-    c.in-Err.ensures.fault c.write_snapshot_fault.ensures
+    c.in-Err.ensures.fault c.write_snapshot_fault.ensures.numbered c.write_snapshot_fault.ensures.line
 
 pub returns-in-Err-clause-session : goal.returns-in-Err-clause-session
 returns-in-Err-clause-session g c =
-    none_left c.args.self.now (judged_parts c.args.draft.now) c.write_snapshot_fault.result c.in-Err.fault c.args.text.now.items c.write_snapshot_fault.new.text.items
-    c.in-Err.ensures.fault c.write_snapshot_fault.ensures
+    none_left c.args.self.now (judged_parts c.args.draft.now) c.write_snapshot_fault.result c.in-Err.fault
+    c.in-Err.ensures.fault c.write_snapshot_fault.ensures.numbered

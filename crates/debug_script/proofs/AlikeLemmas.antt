@@ -7,7 +7,7 @@ use Rattle.debug_language.specs.declared.engine.EngineCommand.TheVariants as eng
 use Rattle.debug_language.specs.Reader.{engine_command_of}
 use Rattle.x_debug.specs.Session.{SessionValue}
 use Rattle.x_debug.specs.Commands.{Answer}
-use Rattle.debug_laws.specs.AlikeSessions.{AreSoundAlike, AreAlikeAnswers}
+use Rattle.debug_laws.specs.AlikeSessions.{IsSoundSession, AreSoundAlike, AreAnswersAlike}
 use Rattle.debug_laws.proofs.AnswerLemmas.{line_alike, load_alike}
 use Rattle.debug_script.specs.Input.{without_newline}
 use Rattle.debug_script.specs.PoolAnswer.{answer_pool}
@@ -26,7 +26,7 @@ pub exchange_is : (s : SessionValue) (raw : List ℕ) (after : List (List ℕ)) 
 unfolding exchange
 exchange_is s raw after c e = ap (exchange_by s (without_newline raw) after) (sym e)
 
-with_taken : (x y : Answer) (n : ℕ) → AreAlikeAnswers x y → AreAlikeExchanges (exchange_with x n) (exchange_with y n)
+with_taken : (x y : Answer) (n : ℕ) → AreAnswersAlike IsSoundSession x y → AreAlikeExchanges (exchange_with x n) (exchange_with y n)
 with_taken x y n h = record { text = h.text; taken = refl; sessions = h.sessions }
 
 module _ (a f : SessionValue) (k : AreSoundAlike a f) (raw : List ℕ) (after : List (List ℕ)) where
@@ -65,10 +65,10 @@ module _ (f : SessionValue) (raw : List ℕ) (after : List (List ℕ)) (c : Opti
   session_by s k = subst (λ (x : Exchange). AreSoundAlike s x.session) (sym (exchange_is f raw after c read)) k
 
 -- an answer that is alike to the one that was made
-pub text_of_alike : (x y : Answer) (said text reply : List ℕ) → AreAlikeAnswers x y → text ≡ said ++ reply → reply ≡ x.text → text ≡ said ++ y.text
+pub text_of_alike : (x y : Answer) (said text reply : List ℕ) → AreAnswersAlike IsSoundSession x y → text ≡ said ++ reply → reply ≡ x.text → text ≡ said ++ y.text
 text_of_alike x y said text reply h w e = w ∙ ap (λ (bs : List ℕ). said ++ bs) (e ∙ h.text)
 
-pub session_of_alike : (x y : Answer) (s : SessionValue) → AreAlikeAnswers x y → s ≡ x.session → AreSoundAlike s y.session
+pub session_of_alike : (x y : Answer) (s : SessionValue) → AreAnswersAlike IsSoundSession x y → s ≡ x.session → AreSoundAlike s y.session
 session_of_alike x y s h e = subst (λ (t : SessionValue). AreSoundAlike t y.session) (sym e) h.sessions
 
 -- all lines are

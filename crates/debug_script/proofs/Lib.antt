@@ -1,5 +1,4 @@
 mod RawLemmas
-mod FirstLemmas
 mod TakenLemmas
 mod SearchLemmas
 mod InputExamples

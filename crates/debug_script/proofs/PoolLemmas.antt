@@ -1,6 +1,5 @@
 -- What a pool is answered: of sound sessions that are alike the same.
-use Rattle.std.proofs.Common.{◌≡◌, ℕ, zero, suc, ◌<◌, ◌==◌, Bool, true, false, Option, Some, None, is_some, List, [], ◌∷◌, ◌++◌}
-use Rattle.std.proofs.Common.{nat_lt, length, refl, sym, ap, ◌∙◌, subst, arith, ltb-true, ltb-false}
+use Rattle.std.proofs.Common.{◌≡◌, ℕ, zero, suc, ◌<◌, ◌==◌, Bool, true, false, Option, Some, None, is_some, List, [], ◌∷◌, ◌++◌, nat_lt, length, refl, sym, ap, ◌∙◌, subst, arith, ltb-true, ltb-false}
 use Rattle.std.proofs.lemmas.Bool.{false≢true}
 use Rattle.text_lines.specs.Writing.{line_text}
 use Rattle.lab_book.specs.Tile.{TileValue, is_leased}
@@ -9,7 +8,7 @@ use Rattle.lab_book.specs.Book.{BookValue, leased_in}
 use Rattle.lab_world.specs.Worker.{WorkerValue}
 use Rattle.lab_world.specs.World.{IsSeat}
 use Rattle.debug_language.specs.declared.fault.DebugFault.TheVariants.{AlreadyOpen}
-use Rattle.debug_acts.specs.Lines.{debug_refusal}
+use Rattle.debug_language.specs.Replies.{debug_refusal}
 use Rattle.debug_acts.proofs.LineLemmas.{one_line}
 use Rattle.x_debug.specs.Session.{SessionValue}
 use Rattle.x_debug.specs.Commands.{says, done_by}
@@ -18,8 +17,8 @@ use Rattle.lab_book_laws.specs.Searched.{searched, IsSearched}
 use Rattle.lab_book_laws.proofs.FilterLemmas.{count_none}
 use Rattle.lab_book_laws.proofs.CountLemmas.{held_alike, leased_alike}
 use Rattle.lab_book_laws.proofs.SearchedLemmas.{searched_tiling, searched_open}
-use Rattle.debug_laws.specs.AlikeSessions.{open_branches, IsSoundSession, AreSoundAlike, AreAlikeAnswers}
-use Rattle.debug_laws.proofs.TileLemmas.{both_open}
+use Rattle.debug_laws.specs.AlikeSessions.{open_branches, IsSoundSession, AreSoundAlike, AreAnswersAlike}
+use Rattle.debug_laws.proofs.ToldLemmas.{both_open}
 use Rattle.debug_laws.proofs.PooledLemmas.{none_leased, pooled_alike}
 use Rattle.debug_script.specs.PoolAnswer.{none_held, pool_words, pool_answer, answer_pool, unless_open}
 
@@ -62,25 +61,25 @@ module _ (a f : SessionValue) (k : AreSoundAlike a f) where
   as_many_held = ap (λ (n : ℕ). n == 0) (held_alike a.book.tiles f.book.tiles k.alike.book.tiles)
 
   -- with a branch open it is refused
-  refused_with : 0 < open_branches a.worker → AreAlikeAnswers (done_by a (says a (debug_refusal AlreadyOpen ∷ []))) (answer_pool f)
+  refused_with : 0 < open_branches a.worker → AreAnswersAlike IsSoundSession (done_by a (says a (debug_refusal AlreadyOpen ∷ []))) (answer_pool f)
   refused_with = both_open a.worker f.worker k.alike.runner
       (λ x y. 0 < open_branches x
-      → AreAlikeAnswers (done_by a (says a (debug_refusal AlreadyOpen ∷ []))) (unless_open f y (pool_answer f.book (searched f.book))))
+      → AreAnswersAlike IsSoundSession (done_by a (says a (debug_refusal AlreadyOpen ∷ []))) (unless_open f y (pool_answer f.book (searched f.book))))
       (λ l. absurd (omega arith)) (λ v w d e g. λ l. record { text = refl; sessions = k })
 
   -- that is where a tile is leased
-  pub refused_alike : 0 < leased_in a.book.tiles → AreAlikeAnswers (answers (debug_refusal AlreadyOpen) a) (answer_pool f)
+  pub refused_alike : 0 < leased_in a.book.tiles → AreAnswersAlike IsSoundSession (answers (debug_refusal AlreadyOpen) a) (answer_pool f)
   refused_alike some =
-      let n = k.sound.leased in
+      let n = k.one.leased in
       let r = refused_with (omega arith) in
       record { text = one_line (debug_refusal AlreadyOpen) ∙ r.text; sessions = r.sessions }
 
   -- and else the waiting tiles are searched
   pub searched_alike : (new : BookValue) → leased_in a.book.tiles ≡ 0 → IsSearched a.book new → IsTiling new.problem new.branch new.first new.tiles
-      → AreAlikeAnswers (pool_answer a.book new) (answer_pool f)
+      → AreAnswersAlike IsSoundSession (pool_answer a.book new) (answer_pool f)
   searched_alike new none s t =
-      let e = no_worker f k.also_sound (sym as_many_leased ∙ none) in
-      subst (λ (w : Option WorkerValue). AreAlikeAnswers (pool_answer a.book new) (unless_open f w (pool_answer f.book (searched f.book))))
+      let e = no_worker f k.other (sym as_many_leased ∙ none) in
+      subst (λ (w : Option WorkerValue). AreAnswersAlike IsSoundSession (pool_answer a.book new) (unless_open f w (pool_answer f.book (searched f.book))))
       (sym e) (record {
         text = ap (λ (all : Bool). (answers (pool_words all) a).text) as_many_held;
         sessions = pooled_alike a f new k e s t;
@@ -95,14 +94,14 @@ module _ (a f : SessionValue) (k : AreSoundAlike a f) where
       (ap (λ (b : Bool). line_text (pool_words b)) e ∙ (searched_alike new none s t).text)
 
   -- so it is of the two
-  pub pools_alike : AreAlikeAnswers (answer_pool a) (answer_pool f)
+  pub pools_alike : AreAnswersAlike IsSoundSession (answer_pool a) (answer_pool f)
   pools_alike = by a.worker refl
     where
       by : (x : Option WorkerValue) → a.worker ≡ x
-          → AreAlikeAnswers (unless_open a x (pool_answer a.book (searched a.book))) (answer_pool f)
+          → AreAnswersAlike IsSoundSession (unless_open a x (pool_answer a.book (searched a.book))) (answer_pool f)
       by None e =
-          let n = none_leased a k.sound e in
+          let n = none_leased a k.one e in
           searched_alike (searched a.book) n
           (record { problem = refl; branch = refl; first = refl; tiles = searched_open a.book.problem a.book.tiles n })
-          (searched_tiling a.book k.sound.seated.tiling)
+          (searched_tiling a.book k.one.seated.tiling)
       by (Some w) e = let o : open_branches a.worker ≡ 1 = ap open_branches e in refused_with (omega arith)

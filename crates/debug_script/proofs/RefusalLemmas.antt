@@ -1,11 +1,10 @@
 -- How many workers a command asks for, and with which faults their search may end all.
-use Rattle.std.proofs.Common.{inl, inr, ◌≡◌, ℕ, nat_lt, ◌<◌, ◌≤◌, Bool, true, false, cond, nat_le, List, [], ◌∷◌, Option, Some, None, option_and_then, codes, refl, sym, subst, ap, ◌∙◌, ◌||◌, zero, suc, drop, option_map, arith}
+use Rattle.std.proofs.Common.{inl, inr, ◌≡◌, ℕ, ◌<◌, ◌≤◌, Bool, true, false, cond, nat_le, List, [], ◌∷◌, Option, Some, None, codes, refl, sym, subst, ap, ◌∙◌, ◌||◌, zero, suc, drop, option_map, arith}
 use Rattle.std.specs.Prelude.{Result, Ok, Err, IfErr, IsErrAnd}
 use Rattle.std.specs.Str.{bytes_eq}
 use Rattle.std.proofs.lemmas.Bool.{leb-true, ltb-true}
 use Rattle.text_lines.specs.Lines.{is_empty}
-use Rattle.text_lines.specs.Numbers.{number_within}
-use Rattle.x_snapshot.specs.Reader.{only, option_number, positive}
+use Rattle.x_snapshot.proofs.BackLemmas.{and_then_is, map_is}
 use Rattle.lab_pool.specs.Pool.{IsBadCount}
 use Rattle.debug_language.specs.declared.engine.EngineCommand.TheVariants as engine
 use Rattle.debug_script.specs.declared.fault.JobFault.{JobFault}
@@ -14,22 +13,8 @@ use Rattle.x_debug.specs.Session.{SessionValue}
 use Rattle.debug_script.specs.Input.{raw_lines, without_newline}
 use Rattle.debug_script.specs.Refusals.{MayRefuse, MayEnd, IsWantOrPool, IsWantOrAsked, asks_for_workers, has_pool}
 use Rattle.debug_script.specs.Replies.{exchange}
-use Rattle.debug_language.specs.Reader.{most_number, number_from, count_from, workers, load_from, pool_from, engine_from, engine_command_of}
-
-positive_is : (m n : ℕ) → positive m ≡ Some n → 0 < n
-positive_is m n = by (nat_lt 0 m) refl
-  where
-    by : (b : Bool) → nat_lt 0 m ≡ b → cond b (Some m) None ≡ Some n → 0 < n
-    by true e h = let f : m ≡ n = cc in let l = ltb-true 0 m e in omega arith
-    by false e h = absurd (cc)
-
-some_positive : (o : Option ℕ) (n : ℕ) → option_and_then positive o ≡ Some n → 0 < n
-some_positive None n h = absurd (cc)
-some_positive (Some m) n h = positive_is m n h
-
-only_positive : (o : Option (List ℕ)) (n : ℕ) → option_and_then (option_number most_number) o ≡ Some n → 0 < n
-only_positive None n h = absurd (cc)
-only_positive (Some word) n h = some_positive (number_within most_number word) n h
+use Rattle.x_debug.proofs.CommandLemmas.{counted}
+use Rattle.debug_language.specs.Reader.{number_from, count_from, workers, pool_from, engine_from, engine_command_of}
 
 workers_are : (m n : ℕ) → 0 < m → workers m ≡ Some (engine.Pool n) → (0 < n) × (n ≤ 32)
 workers_are m n some = by (nat_le m 32) refl
@@ -39,18 +24,12 @@ workers_are m n some = by (nat_le m 32) refl
     by false e h = absurd (cc)
 
 pool_counts : (words : List (List ℕ)) (n : ℕ) → pool_from words ≡ Some (engine.Pool n) → (0 < n) × (n ≤ 32)
-pool_counts words n = by (count_from words) refl
-  where
-    by : (o : Option ℕ) → count_from words ≡ o → option_and_then workers o ≡ Some (engine.Pool n) → (0 < n) × (n ≤ 32)
-    by None e h = absurd (cc)
-    by (Some m) e h = workers_are m n (only_positive (only words) m e) h
+pool_counts words n h =
+    let a = and_then_is workers (count_from words) (engine.Pool n) h in
+    workers_are a.0 n (ltb-true 0 a.0 (counted words a.0 a.1)) a.2
 
-load_counts : (words : List (List ℕ)) (n : ℕ) → load_from words ≡ Some (engine.Pool n) → ⊥
-load_counts words n = by (number_from words)
-  where
-    by : (o : Option ℕ) → option_and_then (λ m. Some (engine.Load m)) o ≡ Some (engine.Pool n) → ⊥
-    by None h = absurd (cc)
-    by (Some m) h = absurd (cc)
+load_counts : (words : List (List ℕ)) (n : ℕ) → option_map engine.Load (number_from words) ≡ Some (engine.Pool n) → ⊥
+load_counts words n h = let a = map_is engine.Load (number_from words) (engine.Pool n) h in let e : engine.Load a.0 ≡ engine.Pool n = a.2 in cc
 
 words_count : (words : List (List ℕ)) (n : ℕ) → engine_from words ≡ Some (engine.Pool n) → (0 < n) × (n ≤ 32)
 unfolding engine_from
@@ -58,7 +37,7 @@ words_count [] n h = absurd (cc)
 words_count (key ∷ words) n h = by (bytes_eq key (codes "load")) (bytes_eq key (codes "pool")) (bytes_eq key (codes "quit")) (is_empty words) h
   where
     by : (load pool quit empty : Bool)
-        → cond load (load_from words) (cond pool (pool_from words) (cond quit (cond empty (Some engine.Quit) None) None)) ≡ Some (engine.Pool n)
+        → cond load (option_map engine.Load (number_from words)) (cond pool (pool_from words) (cond quit (cond empty (Some engine.Quit) None) None)) ≡ Some (engine.Pool n)
         → (0 < n) × (n ≤ 32)
     by true pool quit empty h = absurd (load_counts words n h)
     by false true quit empty h = pool_counts words n h

@@ -1,9 +1,21 @@
 -- The mark is looked for, line by line.
-use Rattle.std.proofs.Common.{◌≡◌, ℕ, ◌-◌, List, [], ◌∷◌, ◌++◌, length, take, true, false, refl, sym, ◌∙◌, ap, append_assoc, append-nil}
-use Rattle.std.specs.List.{concat, before_first, after_first}
+use Rattle.std.proofs.Common.{◌≡◌, List, [], ◌∷◌, Bool, true, false, refl, one-add, add-one, ℕ, ◌-◌, ◌++◌, length, take, sym, ◌∙◌, ap, append_assoc, append-nil}
+use Rattle.std.specs.List.{before_first, after_first, concat}
 use Rattle.debug_script.specs.Input.{raw_lines, is_mark, problem_text, command_lines}
 use Rattle.debug_script.proofs.TakenLemmas.{front_is, is_nothing}
-use Rattle.debug_script.proofs.FirstLemmas.{before_here, before_later, after_here, after_later}
+
+module _ {X : Type 0} (p : X → Bool) (x : X) (xs : List X) where
+  pub before_here : p x ≡ true → before_first p (x ∷ xs) ≡ []
+  before_here e = rw e refl
+
+  pub before_later : p x ≡ false → before_first p (x ∷ xs) ≡ x ∷ before_first p xs
+  before_later e = rw (e, one-add) refl
+
+  pub after_here : p x ≡ true → after_first p (x ∷ xs) ≡ xs
+  after_here e = rw e refl
+
+  pub after_later : p x ≡ false → after_first p (x ∷ xs) ≡ after_first p xs
+  after_later e = rw (e, one-add, add-one, add-one) refl
 
 -- no mark stands before what is left
 pub record IsSearching (input rest : List ℕ) : Type 0 where

@@ -1,4 +1,3 @@
-pub mod Alike
 pub mod Input
 pub mod PoolAnswer
 pub mod Refusals

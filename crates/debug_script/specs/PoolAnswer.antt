@@ -7,7 +7,7 @@ use Rattle.lab_book.specs.Book.{BookValue}
 use Rattle.x_debug.specs.Session.{SessionValue, session_on}
 use Rattle.lab_world.specs.Worker.{WorkerValue}
 use Rattle.debug_language.specs.declared.fault.DebugFault.TheVariants.{AlreadyOpen}
-use Rattle.debug_acts.specs.Lines.{debug_refusal}
+use Rattle.debug_language.specs.Replies.{debug_refusal}
 use Rattle.x_debug.specs.Commands.{Answer, says, done_by}
 use Rattle.x_debug.specs.LoadedTexts.{answers}
 use Rattle.lab_book_laws.specs.AlikeBooks.{held_tiles}
@@ -33,11 +33,3 @@ unless_open s (Some w) a = done_by s (says s (debug_refusal AlreadyOpen ∷ []))
 -- `pool`: each waiting tile is searched to its end, where no branch is open
 abbrev pub answer_pool : SessionValue → Answer
 answer_pool s = unless_open s s.worker (pool_answer s.book (searched s.book))
-
--- its text
-abbrev pub pool_said : SessionValue → List ℕ
-pool_said s = (answer_pool s).text
-
--- and the session that it leaves
-abbrev pub pool_left : SessionValue → SessionValue
-pool_left s = (answer_pool s).session

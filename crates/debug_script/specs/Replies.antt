@@ -5,10 +5,11 @@
 --
 -- Example: after `load 1` and one line more, `show` is answered; after `quit` nothing is.
 -- proofs/ReplyExamples.antt computes it.
-use Rattle.std.specs.Prelude.{ℕ, zero, suc, ◌≡◌, ◌≤◌, ◌++◌, List, [], ◌∷◌, length, take, drop, Option, Some, None, option_map, unwrap_or, IfSome, Result}
+use Rattle.std.specs.Prelude.{ℕ, zero, suc, ◌≡◌, ◌++◌, List, [], ◌∷◌, take, drop, Option, Some, None, option_map, unwrap_or, Result, OnOk}
 use Rattle.std.specs.Global.{Vec}
 use Rattle.std.specs.Borrow.{Bor}
 use Rattle.std.specs.List.{concat}
+use Rattle.text_lines.specs.Writes.{Writes}
 use Rattle.debug_language.specs.declared.engine.EngineCommand.{EngineCommand}
 use Rattle.debug_language.specs.declared.engine.EngineCommand.TheVariants as engine
 use Rattle.debug_language.specs.Reader.{engine_command_of}
@@ -17,7 +18,6 @@ use Rattle.x_debug.specs.Commands.{Answer, answer_line}
 use Rattle.x_debug.specs.LoadedTexts.{load_answer}
 use Rattle.debug_laws.specs.AlikeSessions.{AreSoundAlike}
 use Rattle.debug_script.specs.Input.{raw_lines, without_newline}
-use Rattle.debug_script.specs.Alike.{SaysAlike}
 use Rattle.debug_script.specs.PoolAnswer.{answer_pool}
 
 -- what a line is answered, the session that is left, and how many of the lines after it are taken with it; None where it ends the
@@ -42,23 +42,11 @@ exchange_by s line after (Some engine.Quit) = record { text = []; session = s; t
 unfoldable pub exchange : SessionValue → List ℕ → List (List ℕ) → Exchange
 exchange s raw after = exchange_by s (without_newline raw) after (engine_command_of (without_newline raw))
 
--- what a session says to a raw line, with this text after it
-abbrev pub said_to : List ℕ → List ℕ → SessionValue → List ℕ
-said_to raw after s = (exchange s raw (raw_lines after)).text
-
--- and the session that it leaves
-abbrev pub session_left : List ℕ → List ℕ → SessionValue → SessionValue
-session_left raw after s = (exchange s raw (raw_lines after)).session
-
 -- of the text after a raw line this is left, whatever session the line is said to; None where the commands end
 abbrev pub Leaves : List ℕ → List ℕ → Option (Bor (List ℕ)) → Type 0
 Leaves raw after left =
     (s : SessionValue) → option_map (λ rest. raw_lines rest.now) left
     ≡ option_map (λ n. drop n (raw_lines after)) (exchange s raw (raw_lines after)).taken
-
--- what is left of a text, if something is, is no longer than it
-abbrev pub IsNoLonger : Option (Bor (List ℕ)) → List ℕ → Type 0
-IsNoLonger left text = IfSome left (λ rest. length rest.now ≤ length text)
 
 -- the answers to raw lines, of which so many are taken already
 unfoldable pub debug_replies : SessionValue → ℕ → List (List ℕ) → List ℕ
@@ -72,9 +60,13 @@ debug_replies s zero (line ∷ after) =
 abbrev pub replies_to : SessionValue → List ℕ → List ℕ
 replies_to s commands = debug_replies s 0 (raw_lines commands)
 
--- unless it has an error, a call answers command lines as each sound session does that is alike to this one
-abbrev pub AnswersAlike : {X E : Type 0} → Result X E → Vec ℕ → Vec ℕ → SessionValue → List ℕ → Type 0
-AnswersAlike result old new s commands = SaysAlike result old new s (λ f. replies_to f commands)
+-- unless it has an error, a call says what each sound session says that is alike to this one
+abbrev pub SaysAlike : {X E : Type 0} → Result X E → Vec ℕ → Vec ℕ → SessionValue → (SessionValue → List ℕ) → Type 0
+SaysAlike result old new s said = OnOk result ((f : SessionValue) → AreSoundAlike s f → Writes old new (said f))
+
+-- a session that is left is alike to what is left of each sound session that is alike to the one there was
+abbrev pub StaysAlike : SessionValue → SessionValue → (SessionValue → SessionValue) → Type 0
+StaysAlike s t left = (f : SessionValue) → AreSoundAlike s f → AreSoundAlike t (left f)
 
 -- two sound sessions that are alike answer command lines with the same bytes
 abbrev pub ReplyAlike : SessionValue → SessionValue → List (List ℕ) → Type 0

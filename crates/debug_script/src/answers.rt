@@ -1,11 +1,10 @@
 //! What a session of a problem answers to command lines.
-ghost use Rattle.std.specs.Prelude.{[], ◌∷◌, IfOk, IfErr, OnOk};
+ghost use Rattle.std.specs.Prelude.{[], ◌∷◌, ◌≤◌, length, IfOk, IfErr, IfSome, OnOk};
 ghost use Rattle.shared_words.specs.Answers.{ReturnsItems};
 ghost use Rattle.x_debug.specs.Session.{fresh_session};
-ghost use Rattle.debug_script.specs.Alike.{SaysAlike, StaysAlike};
 ghost use Rattle.debug_script.specs.Input.{raw_lines};
 ghost use Rattle.debug_script.specs.Refusals.{IsWantOrPool, IsWantOrAsked, MayEnd};
-ghost use Rattle.debug_script.specs.Replies.{said_to, session_left, Leaves, IsNoLonger, AnswersAlike, replies_to};
+ghost use Rattle.debug_script.specs.Replies.{exchange, Leaves, SaysAlike, StaysAlike, replies_to};
 ghost use Rattle.text_lines.specs.Writes.{Writes};
 
 use crate::fault::JobFault;
@@ -43,10 +42,12 @@ fn exchange<'p, 'a, T: Table + Send + Sync, R: Threads + Wait + Sync, G: Gate>(
     after: &'a [u8],
     text: &mut Vec<u8>,
 ) -> Result<(Session<'p, T>, Option<&'a [u8]>), JobFault>
-    ensures text { SaysAlike result text.old text.new session.entry (said_to raw.now after.now) }
-    ensures session { IfOk result (λ r. StaysAlike session.entry r.0 (session_left raw.now after.now)) }
+    ensures text { SaysAlike result text.old text.new session.entry
+        (λ f. (exchange f raw.now (raw_lines after.now)).text) }
+    ensures session { IfOk result (λ r. StaysAlike session.entry r.0
+        (λ f. (exchange f raw.now (raw_lines after.now)).session)) }
     ensures left { IfOk result (λ r. Leaves raw.now after.now r.1) }
-    ensures no_longer { IfOk result (λ r. IsNoLonger r.1 after.now) }
+    ensures no_longer { IfOk result (λ r. IfSome r.1 (λ rest. length rest.now ≤ length after.now)) }
     ensures why { IfErr result (IsWantOrPool MayEnd) }
     ensures asked { IfErr result (IsWantOrAsked (raw.now ∷ [])) }
 {
@@ -82,7 +83,8 @@ fn answer_lines<T: Table + Send + Sync, R: Threads + Wait + Sync, G: Gate>(
     commands: &[u8],
     text: &mut Vec<u8>,
 ) -> Result<(), JobFault>
-    ensures text { AnswersAlike result text.old text.new session.entry commands.now }
+    ensures text { SaysAlike result text.old text.new session.entry
+        (λ f. replies_to f commands.now) }
     ensures why { IfErr result (IsWantOrPool MayEnd) }
     ensures asked { IfErr result (IsWantOrAsked (raw_lines commands.now)) }
 {

@@ -4,9 +4,9 @@ ghost use Rattle.text_lines.specs.Writing.{line_text};
 ghost use Rattle.lab_book.specs.Book.{leased_in};
 ghost use Rattle.lab_book.specs.Tiling.{IsTiling};
 ghost use Rattle.lab_book_laws.specs.Searched.{IsSearched};
-ghost use Rattle.debug_acts.specs.Lines.{debug_refusal};
-ghost use Rattle.debug_script.specs.Alike.{SaysAlike, StaysAlike};
-ghost use Rattle.debug_script.specs.PoolAnswer.{none_held, pool_words, pool_said, pool_left};
+ghost use Rattle.debug_language.specs.Replies.{debug_refusal};
+ghost use Rattle.debug_script.specs.PoolAnswer.{none_held, pool_words, answer_pool};
+ghost use Rattle.debug_script.specs.Replies.{SaysAlike, StaysAlike};
 ghost use Rattle.debug_script.specs.Refusals.{MayRefuse, IsWantOrPool};
 ghost use Rattle.text_lines.specs.Writes.{AddsLine};
 
@@ -90,8 +90,8 @@ pub(crate) fn pool<'p, T: Table + Send + Sync, R: Threads + Wait + Sync, G: Gate
     gate: &G,
     text: &mut Vec<u8>,
 ) -> Result<Session<'p, T>, JobFault>
-    ensures text { SaysAlike result text.old text.new session.entry pool_said }
-    ensures session { IfOk result (λ s. StaysAlike session.entry s pool_left) }
+    ensures text { SaysAlike result text.old text.new session.entry (λ f. (answer_pool f).text) }
+    ensures session { IfOk result (λ s. StaysAlike session.entry s (λ f. (answer_pool f).session)) }
     ensures why { IfErr result (IsWantOrPool (MayRefuse workers)) }
 {
     // The book tells it: a session leases no tile but that of its branch.

@@ -2,11 +2,11 @@
 ghost use Rattle.std.specs.Prelude.{◌≡◌, ◌∷◌, Some, None, option_map, if◌then◌else◌};
 ghost use Rattle.text_lines.specs.Lines.{words_of, is_empty};
 ghost use Rattle.debug_language.specs.Reader as spec;
-ghost use Rattle.debug_language.specs.Reader.{engine_from, engine_command_of};
+ghost use Rattle.debug_language.specs.Reader.{engine_from};
 
 use crate::reader::{count_from, number_from};
 use shared_words::MOST_WORKERS;
-use text_lines::{has_words, split_word, without_return};
+use text_lines::has_words;
 
 /// What a command line asks of the engine.
 #[derive(Clone, Copy, Debug, PartialEq, Eq)]
@@ -63,13 +63,4 @@ pub(crate) fn engine_command(key: &[u8], words: &[u8]) -> Option<EngineCommand>
         b"quit" => quit_from(words),
         _ => None,
     }
-}
-
-/// Reads a command line: the engine's command that it is, or None.
-#[tactic(auto, unfolding(crate::specs::Reader::engine_from))]
-pub fn read_engine_command(line: &[u8]) -> Option<EngineCommand>
-    ensures { result ≡ engine_command_of line.now }
-{
-    let (key, words) = split_word(without_return(line))?;
-    engine_command(key, words)
 }

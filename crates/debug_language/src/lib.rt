@@ -13,7 +13,7 @@ mod replies;
 mod words;
 
 pub use command::Command;
-pub use engine::{EngineCommand, read_engine_command};
+pub use engine::EngineCommand;
 pub use fault::DebugFault;
 pub use lines::{
     write_branch, write_covered, write_list, write_lists, write_saved, write_standing,

@@ -42,34 +42,32 @@ module _ (a f : SessionValue) (k : AreSoundAlike a f) (raw : List ℕ) (after : 
   unfolding exchange
   exchanges_alike = by_command (engine_command_of (without_newline raw))
 
--- ---- a line, by the command that it is read as
+-- ---- a line, by the command of the engine that it is read as, if it is one
 
--- the command of a line, as one of its words
-pub read_as : (raw line : List ℕ) (x y : EngineCommand) → x ≡ y → Some x ≡ engine_command_of line → line ≡ without_newline raw
-    → Some y ≡ engine_command_of (without_newline raw)
-read_as raw line x y e r same = subst (λ (z : EngineCommand). Some z ≡ engine_command_of (without_newline raw)) e (r ∙ ap engine_command_of same)
+module _ (raw line : List ℕ) (after : List (List ℕ)) (same : line ≡ without_newline raw) (c : Option EngineCommand) (read : engine_command_of line ≡ c) where
+  by_read : (f : SessionValue) → exchange f raw after ≡ exchange_by f (without_newline raw) after c
+  by_read f = exchange_is f raw after c (sym read ∙ ap engine_command_of same)
 
-module _ (f : SessionValue) (raw : List ℕ) (after : List (List ℕ)) (c : Option EngineCommand) (read : c ≡ engine_command_of (without_newline raw)) where
   -- what is left behind it, of so many lines that are taken
-  pub left_by : (t : Option ℕ) → t ≡ (exchange_by f (without_newline raw) after c).taken
+  pub left_by : (f : SessionValue) (t : Option ℕ) → t ≡ (exchange_by f (without_newline raw) after c).taken
       → option_map (λ (n : ℕ). drop n after) t ≡ option_map (λ (n : ℕ). drop n after) (exchange f raw after).taken
-  left_by t e =
-      ap (λ (o : Option ℕ). option_map (λ (n : ℕ). drop n after) o) (e ∙ sym (ap (λ (x : Exchange). x.taken) (exchange_is f raw after c read)))
+  left_by f t e = ap (λ (o : Option ℕ). option_map (λ (n : ℕ). drop n after) o) (e ∙ sym (ap (λ (x : Exchange). x.taken) (by_read f)))
 
   -- what is written of an answer, and the session that is left, are those of the exchange
-  pub text_by : (said text : List ℕ) → text ≡ said ++ (exchange_by f (without_newline raw) after c).text → text ≡ said ++ (exchange f raw after).text
-  text_by said text w = w ∙ ap (λ (x : Exchange). said ++ x.text) (sym (exchange_is f raw after c read))
+  pub text_by : (f : SessionValue) (said text : List ℕ) → text ≡ said ++ (exchange_by f (without_newline raw) after c).text → text ≡ said ++ (exchange f raw after).text
+  text_by f said text w = w ∙ ap (λ (x : Exchange). said ++ x.text) (sym (by_read f))
 
-  pub session_by : (s : SessionValue) → AreSoundAlike s (exchange_by f (without_newline raw) after c).session
-      → AreSoundAlike s (exchange f raw after).session
-  session_by s k = subst (λ (x : Exchange). AreSoundAlike s x.session) (sym (exchange_is f raw after c read)) k
+  pub session_by : (f s : SessionValue) → AreSoundAlike s (exchange_by f (without_newline raw) after c).session → AreSoundAlike s (exchange f raw after).session
+  session_by f s k = subst (λ (x : Exchange). AreSoundAlike s x.session) (sym (by_read f)) k
 
--- an answer that is alike to the one that was made
-pub text_of_alike : (x y : Answer) (said text reply : List ℕ) → AreAnswersAlike IsSoundSession x y → text ≡ said ++ reply → reply ≡ x.text → text ≡ said ++ y.text
-text_of_alike x y said text reply h w e = w ∙ ap (λ (bs : List ℕ). said ++ bs) (e ∙ h.text)
+  -- and so are those of each session that is alike to the one that answered
+  module _ (s f : SessionValue) (k : AreSoundAlike s f) where
+    pub own_text : (said text : List ℕ) → text ≡ said ++ (exchange_by s (without_newline raw) after c).text → text ≡ said ++ (exchange f raw after).text
+    own_text said text w = text_by s said text w ∙ ap (λ (bs : List ℕ). said ++ bs) (exchanges_alike s f k raw after).text
 
-pub session_of_alike : (x y : Answer) (s : SessionValue) → AreAnswersAlike IsSoundSession x y → s ≡ x.session → AreSoundAlike s y.session
-session_of_alike x y s h e = subst (λ (t : SessionValue). AreSoundAlike t y.session) (sym e) h.sessions
+    pub own_session : (t : SessionValue) → t ≡ (exchange_by s (without_newline raw) after c).session → AreSoundAlike t (exchange f raw after).session
+    own_session t e = subst (λ (x : SessionValue). AreSoundAlike x (exchange f raw after).session) (sym (e ∙ ap (λ (x : Exchange). x.session) (sym (by_read s))))
+        (exchanges_alike s f k raw after).sessions
 
 -- all lines are
 pub replies_alike : (lines : List (List ℕ)) (n : ℕ) (a f : SessionValue) → AreSoundAlike a f → debug_replies a n lines ≡ debug_replies f n lines

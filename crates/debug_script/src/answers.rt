@@ -11,11 +11,12 @@ use crate::fault::JobFault;
 use crate::input::{raw_line, take_lines, without_newline};
 use crate::workers::pool;
 use cover_problem::{Problem, Table};
-use debug_language::{EngineCommand, read_engine_command};
+use debug_language::{EngineCommand, LineCommand, read_line, write_debug_fault};
 use lab_pool::Gate;
 use std::alloc::{AllocError, Global};
 use std::sync::Wait;
 use std::thread::Threads;
+use text_lines::Refusal;
 use x_debug::Session;
 
 /// Where the workers of a `pool` work: on these threads, and behind this gate.
@@ -53,25 +54,27 @@ fn exchange<'p, 'a, T: Table + Send + Sync, R: Threads + Wait + Sync, G: Gate>(
 {
     // By value: `pool` takes the book out of it, and another session goes on.
     let mut session = session;
-    let line = without_newline(raw);
-    match read_engine_command(line) {
-        None => {
-            let reply = session.command(line)?;
-            append(text, reply.text.as_slice())?;
+    match read_line(alloc, session.book().problem(), without_newline(raw)) {
+        Ok(LineCommand::Session(command)) => {
+            session.obey(&command, text)?;
             Ok((session, Some(after)))
         }
-        Some(EngineCommand::Load(lines)) => {
+        Ok(LineCommand::Engine(EngineCommand::Load(lines))) => {
             // Taken before they are read: where they are no snapshot, they are no commands either.
             let (snapshot, rest) = take_lines(after, lines);
-            let loaded = session.load(snapshot)?;
-            append(text, loaded.text.as_slice())?;
+            session.obey_load(snapshot, text)?;
             Ok((session, Some(rest)))
         }
-        Some(EngineCommand::Pool(workers)) => {
+        Ok(LineCommand::Engine(EngineCommand::Pool(workers))) => {
             let session = pool(site.rt, alloc, session, workers, site.gate, text)?;
             Ok((session, Some(after)))
         }
-        Some(EngineCommand::Quit) => Ok((session, None)),
+        Ok(LineCommand::Engine(EngineCommand::Quit)) => Ok((session, None)),
+        Err(Refusal::Fault(fault)) => {
+            write_debug_fault(text, fault)?;
+            Ok((session, Some(after)))
+        }
+        Err(Refusal::OutOfMemory) => Err(JobFault::OutOfMemory),
     }
 }
 
@@ -83,8 +86,7 @@ fn answer_lines<T: Table + Send + Sync, R: Threads + Wait + Sync, G: Gate>(
     commands: &[u8],
     text: &mut Vec<u8>,
 ) -> Result<(), JobFault>
-    ensures text { SaysAlike result text.old text.new session.entry
-        (λ f. replies_to f commands.now) }
+    ensures text { SaysAlike result text.old text.new session.entry (λ f. replies_to f commands.now) }
     ensures why { IfErr result (IsWantOrPool MayEnd) }
     ensures asked { IfErr result (IsWantOrAsked (raw_lines commands.now)) }
 {

@@ -54,7 +54,10 @@ fn exchange<'p, 'a, T: Table + Send + Sync, R: Threads + Wait + Sync, G: Gate>(
 {
     // By value: `pool` takes the book out of it, and another session goes on.
     let mut session = session;
-    match read_line(alloc, session.book().problem(), without_newline(raw)) {
+    let problem = session.book().problem();
+    // Tells that a breakpoint that is read over it can be met.
+    problem.is_sound();
+    match read_line(alloc, problem, without_newline(raw)) {
         Ok(LineCommand::Session(command)) => {
             session.obey(&command, text)?;
             Ok((session, Some(after)))

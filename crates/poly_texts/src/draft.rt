@@ -42,7 +42,13 @@ impl Model for Draft {
 
     ghost Value = { DraftValue };
 
-    ghost view = { λ a. record { kinds = a.kinds.items; boxed = a.is_boxed; named = a.named.keys; maybe_cells = a.maybe_cells.keys; cut = a.cut.keys } };
+    ghost view = { λ a. record {
+      kinds = a.kinds.items;
+      boxed = a.is_boxed;
+      named = a.named.keys;
+      maybe_cells = a.maybe_cells.keys;
+      cut = a.cut.keys;
+    } };
 }
 
 impl Draft {
